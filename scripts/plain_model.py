@@ -85,10 +85,17 @@ class Store:
     def put_table(self, which, batches):
         self.call(lambda: self.tables.__setitem__(which, list(batches)))
 
-    def replay(self, mark, above):
-        last = self.last_log(mark)
+    def newest(self, mark, last, number):
+        """The newest number in a log file, from the last one downwards to one that has any above this, or this."""
+        for which in range(last, mark, -1):
+            found = max([number] + [each.number for each in self.read_log(which)])
+            if found > number:
+                return found
+        return number
+
+    def replay(self, mark, last, above):
         found = [each for which in range(mark + 1, last + 1) for each in self.read_log(which)]
-        return last, [each for each in found if each.number > above]
+        return [each for each in found if each.number > above]
 
 
 # ---- reads
@@ -143,8 +150,8 @@ class Handle:
 
 
 class Reader:
-    def __init__(self, mode, skips, view):
-        self.mode, self.skips, self.view, self.memory, self.mark, self.result = mode, skips, view, [], view.mark, None
+    def __init__(self, mode, skips, lag, view):
+        self.mode, self.skips, self.lag, self.view, self.memory, self.mark, self.result = mode, skips, lag, view, [], view.mark, None
         self.number, self.lease, self.begun = view.last, None, None
 
     def check(self):
@@ -390,19 +397,19 @@ class Run:
 
     # ---- readers
     def follow(self, moment, *words):
-        skips = words[-1] == "skip"
-        mode = words[0]
+        mode, skips = words[0], "skip" in words
+        lag = words[-1] if "lag" in words else 0
         if mode == "managed":
             refuse_options(words[1], words[2])
         latest = self.store.latest()
         if latest is None:
             raise Refused(NO_MANIFEST)
         if mode == "pinned":
-            return self.pin(latest, words[1], skips)
-        reader = Reader(mode, skips, latest)
+            return self.pin(latest, words[1], skips, lag)
+        reader = Reader(mode, skips, lag, latest)
         if mode == "managed":
             self.take_lease(reader, latest, words[1], moment)
-        self.replay(reader, reader.view)
+        self.replay(reader, reader.view, 0)
         return "follower %d whole at %d" % (self.add(reader), reader.number)
 
     def take_lease(self, reader, latest, lifetime, moment):
@@ -413,23 +420,28 @@ class Run:
         self.store.put_manifest(view)
         reader.lease, reader.view = (which, end, lifetime), view
 
-    def replay(self, reader, view):
-        """Takes what log files have under a manifest, after what is known where that leads up to its tables."""
+    def replay(self, reader, view, lag):
+        """Takes what log files have under a manifest, after what is known where that leads up to its tables; but only where that leaves it
+        further behind than this."""
         if reader.skips:
             reader.memory, reader.number = [], view.last
             return
-        leads = reader.number >= view.last and reader.mark >= view.mark
+        leads = reader.number >= view.last
         mark = max(reader.mark, view.mark) if leads else view.mark
-        last, fresh = self.store.replay(mark, reader.number if leads else view.last)
+        number = max(reader.number, view.last)
+        last = self.store.last_log(mark)
+        if lag and self.store.newest(mark, last, number) <= number + lag:
+            last = mark
+        fresh = self.store.replay(mark, last, number)
         memory = [each for each in (reader.memory if leads else []) + fresh if each.number > view.last]
         reader.memory, reader.mark, reader.number = memory, last, view.last + len(memory)
 
-    def pin(self, latest, which, skips):
+    def pin(self, latest, which, skips, lag):
         if which not in [each for each, _ in latest.checkpoints]:
             raise Refused("Data error: checkpoint missing. checkpoint_id=`00000000-0000-0000-0000-%012x`" % which)
         self.store.call()
         view = self.store.manifests[which]
-        reader = Reader("pinned", skips, view)
+        reader = Reader("pinned", skips, lag, view)
         if not skips:
             found = [each for log in range(view.mark + 1, view.following) for each in self.store.read_log(log)]
             reader.memory = [each for each in found if each.number > view.last]
@@ -530,6 +542,10 @@ class Run:
             yield
             latest = self.store.latest()
             return latest if latest.mark <= poll.mark else None
+        if reader.lag:
+            reads = yield from self.step_looks(reader, poll, last)
+            if not reads:
+                return None if reads is None else latest
         while poll.mark < last:
             yield
             found = self.store.find_log(poll.mark + 1)
@@ -537,6 +553,18 @@ class Run:
                 return None
             poll.mark += 1
         return latest
+
+    def step_looks(self, reader, poll, last):
+        """Looks at log files from the last one downwards: whether they are to be read, or None where one is missing."""
+        for which in range(last, poll.mark, -1):
+            yield
+            found = self.store.find_log(which)
+            if found is None:
+                return None
+            newest = max([0] + [each.number for each in found])
+            if newest > poll.number:
+                return newest > poll.number + reader.lag
+        return False
 
     def poll(self, moment, which):
         reader = self.reader(which)
@@ -546,7 +574,7 @@ class Run:
             saw = dict(reader.__dict__)
             try:
                 reader.view = self.store.latest()
-                self.replay(reader, reader.view)
+                self.replay(reader, reader.view, reader.lag)
             except Fault:
                 reader.__dict__ = saw
                 raise
@@ -561,7 +589,7 @@ class Run:
             if (latest.tables, latest.last, latest.segments) != (old.tables, old.last, old.segments):
                 self.take_lease(reader, latest, reader.lease[2], moment)
                 latest = reader.view
-            self.replay(reader, latest)
+            self.replay(reader, latest, reader.lag)
             if reader.view is not old:
                 saw = dict(reader.__dict__)  # only the renewal of the lease that it took may fail then
             which, end, lifetime = reader.lease
@@ -572,7 +600,7 @@ class Run:
                     reader.lease = which, end, lifetime
                 else:
                     self.take_lease(reader, latest, lifetime, moment)
-                    self.replay(reader, reader.view)
+                    self.replay(reader, reader.view, reader.lag)
         except Fault:
             reader.__dict__ = {**saw, "lease": reader.lease, "result": UNAVAILABLE}
             raise

@@ -29,6 +29,12 @@ rebuilding-later (errors.EmptySegmentPrefix key) is first = first
 rebuilding-later errors.NoMemory is first = first
 rebuilding-later e is first = is
 
+pub options-later : (e : SlateError) → IsOfOptions e → IsOfLatest e → ⊥
+options-later (errors.InvalidCheckpointLifetime lifetime) is first = first
+options-later (errors.InvalidManifestPollInterval interval) is first = first
+options-later (errors.CheckpointLifetimeTooShort lifetime interval) is first = first
+options-later e is first = is
+
 -- ---- of finding a view
 pub following-finding : (mode : DbReaderMode) (e : SlateError) → IsOfFollowing e → IsOfFinding mode e
 following-finding mode errors.InvalidDBState is = tt

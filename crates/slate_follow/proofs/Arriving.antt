@@ -13,7 +13,7 @@ use Rattle.slate_replay.specs.Replay.{line_of}
 use Rattle.slate_errors.specs.declared.errors.SlateError.{SlateError}
 use Rattle.slate_errors.specs.declared.errors.SlateError.TheVariants as errors
 use Rattle.slate_store.specs.Objects.{Objects}
-use Rattle.slate_model.specs.Begun.{AsksLast, Begun, Breaks, Ended, Ends, Puts, ReadsAgain, ReadsLatest, ReadsLog, Stage, Turn, taken}
+use Rattle.slate_model.specs.Begun.{AsksLast, Begun, Breaks, Ended, Ends, LooksAt, Puts, ReadsAgain, ReadsLatest, ReadsLog, Stage, Turn, taken}
 use Rattle.slate_segments.specs.Refusals.{IsOfSegment}
 use Rattle.slate_follow.specs.Rebuilding.{poll_error}
 use Rattle.slate_follow.specs.Arriving.{taken_batches}
@@ -112,6 +112,7 @@ meets-leaves ReadsLatest reader begun o o' turn m = m.3
 meets-leaves (Puts next given replaces) reader begun o o' turn (inl m) = inr (m.0, m.2)
 meets-leaves (Puts next given replaces) reader begun o o' turn (inr m) = inl m.2
 meets-leaves AsksLast reader begun o o' turn m = m.1
+meets-leaves (LooksAt id last) reader begun o o' turn m = m.3
 meets-leaves (ReadsLog last) reader begun o o' turn m = m.6
 meets-leaves ReadsAgain reader begun o o' turn m = m.3
 meets-leaves Ended reader begun o o' turn m = absurd m

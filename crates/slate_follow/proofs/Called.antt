@@ -1,7 +1,9 @@
 -- What the calls of a poll by single calls find, from what each leads to.
-use Rattle.std.proofs.Common.{◌≡◌, ℕ, ◌+◌, ◌==◌, ◌++◌, List, length-append, IsSome, if◌then◌else◌, ◌≤◌, inl, true, Bool, Option, None, Some, Ok, Err, Result, refl, rules, sym, ap, subst, arith}
-use Rattle.std.proofs.lemmas.Bool.{eq-eqb}
-use Rattle.std.specs.Option.{IfSome}
+use Rattle.std.proofs.Common.{◌≡◌, ◌∙◌, ℕ, ◌+◌, ◌-◌, ◌<◌, ◌==◌, ◌++◌, inr, List, length-append, IsSome, if◌then◌else◌, ◌≤◌, inl, true, Bool, Option, None, Some, Ok, Err, Result, refl, rules, sym, ap, subst, arith}
+use Rattle.std.proofs.Math.Bool.{or-true}
+use Rattle.std.proofs.lemmas.Bool.{eq-eqb, le-ltb, lt-ltb}
+use Rattle.std.specs.Option.{IfSome, option_map}
+use Rattle.std.specs.Prelude.{◌⊎◌, ◌||◌, nat_lt}
 use Rattle.std.specs.Result.{IfErr}
 use Rattle.slate_types.specs.Modelled.{WhereModelled}
 use Rattle.slate_types.proofs.Modelled.{modelled_as}
@@ -12,13 +14,14 @@ use Rattle.slate_errors.specs.declared.errors.SlateError.{SlateError}
 use Rattle.slate_errors.specs.declared.errors.SlateError.TheVariants as errors
 use Rattle.slate_types.specs.declared.batches.Batch.{Batch}
 use Rattle.slate_store.specs.declared.objects.VersionedManifest.{VersionedManifest}
-use Rattle.slate_model.specs.Begun.{AsksLast, Begun, Ended, Goes, Puts, ReadsAgain, ReadsLatest, ReadsLog, Stage, Turn, read_log, replayed}
+use Rattle.slate_model.proofs.Reduced.{some-same}
+use Rattle.slate_model.specs.Begun.{Begun, Ended, Goes, LooksAt, Puts, ReadsAgain, ReadsLatest, ReadsLog, Stage, Turn, greatest_number, reached_number, read_log, replayed}
 use Rattle.slate_model.specs.Follower.{Follower}
 use Rattle.slate_model.specs.Known.{CountsFaults}
 use Rattle.slate_model.specs.declared.leases.Lease.{Lease}
 use Rattle.slate_model.specs.declared.polls.PollHistory.{PollHistory}
 use Rattle.slate_follow.specs.Keeping.{FindsLatest, PutsManifest}
-use Rattle.slate_follow.specs.Stepping.{CallsNext, FailsFrom, FitsReader, GivesTurn, IsOfCommit, IsOfDecision, IsOfTurn, LeavesPut, MeetsAt, TurnsTo, reads_latest}
+use Rattle.slate_follow.specs.Stepping.{CallsNext, FailsFrom, FitsReader, GivesTurn, IsOfCommit, IsOfDecision, IsOfTurn, LeavesPut, LooksTo, MeetsAt, TurnsTo, reads_latest}
 use Rattle.slate_follow.specs.declared.machines.Turn.{Turn as Answered}
 use Rattle.slate_follow.proofs.Planned.{modelled-kept}
 
@@ -129,3 +132,18 @@ put-failed reader begun after next given replaces e w kind ended = record {
 -- a poll fits its reader while its call is made
 pub counted-fits : (reader : Follower) (begun : Begun) (history : PollHistory) → FitsReader reader begun → FitsReader reader (record begun { stage = Ended; history = history })
 counted-fits reader begun history fits = record { leased = fits.leased; after = fits.after; low = fits.low; high = fits.high }
+
+-- A log file was looked at, and no more is: its newest batch is no further than the reader may be behind, and either new, or there is no
+-- log file before it.
+pub looked-rest : (reader : Follower) (latest : VersionedManifest) (id last newest : ℕ) (begun : Begun) (log : Option (List Batch)) → Some newest ≡ option_map greatest_number log → newest ≤ reached_number begun + reader.lag →
+    (reached_number begun < newest) ⊎ (id ≡ begun.mark + 1) → LooksTo reader latest id last begun log (replayed latest begun)
+looked-rest reader latest id last newest begun None is few new = absurd (cc)
+looked-rest reader latest id last newest begun (Some batches) is few new =
+    let same : newest ≡ greatest_number batches = some-same newest (greatest_number batches) is in
+    let first = le-ltb (reached_number begun + reader.lag) (greatest_number batches) (omega (arith, few, same)) in
+    let second : (nat_lt (reached_number begun) (greatest_number batches) || id == begun.mark + 1) ≡ true = elim new [
+      | inl over ↦ ap (λ x. x || id == begun.mark + 1) (lt-ltb (reached_number begun) (greatest_number batches) (omega (arith, over, same)))
+      | inr next ↦ ap (λ x. nat_lt (reached_number begun) (greatest_number batches) || x) (eq-eqb id (begun.mark + 1) next) ∙ or-true (nat_lt (reached_number begun) (greatest_number batches))
+    ] in
+    sym (ap (λ x. if x then Goes (record begun { stage = ReadsLog last }) else (if nat_lt (reached_number begun) (greatest_number batches) || id == begun.mark + 1 then replayed latest begun else Goes (record begun { stage = LooksAt (id - 1) last }))) first
+    ∙ ap (λ y. if y then replayed latest begun else Goes (record begun { stage = LooksAt (id - 1) last })) second)

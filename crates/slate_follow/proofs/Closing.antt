@@ -8,7 +8,6 @@ use Rattle.slate_types.specs.declared.store_errors.StoreFault.TheVariants.{NotFo
 use Rattle.slate_types.proofs.Modelled.{modelled_as}
 use Rattle.slate_store.specs.Checkpoints.{Plan, found, to_delete, to_take_out, with_checkpoints, without_id}
 use Rattle.slate_store.specs.Objects.{Change, Objects, PutManifest}
-use Rattle.slate_store.specs.Calls.{KeepsFaults}
 use Rattle.slate_store.specs.Refusals as calls
 use Rattle.slate_store.specs.Refusals.{FollowsPlan, checkpoint_changes, planned, planned_after}
 use Rattle.slate_store.specs.declared.objects.Checkpoint.{Checkpoint}
@@ -28,6 +27,7 @@ use Rattle.slate_model.specs.Managed.{ClosesManaged, EndsLease, PlanCause, PutsP
 use Rattle.slate_model.specs.Refusal.{error_of_refusal}
 use Rattle.slate_model.specs.Stores.{Stands, by_objects}
 use Rattle.slate_model.specs.declared.leases.Lease.{Lease}
+use Rattle.slate_follow.proofs.Refused.{counts-refused}
 use Rattle.slate_follow.proofs.Taken.{with-made}
 
 -- what a close answers of the call that takes the checkpoint out
@@ -80,20 +80,9 @@ pub lease-ends : (id : List ℕ) (r : Result (Unit {0}) StoreRefusal) {a b : Opt
 lease-ends id r w = modelled_as (λ o o'. (made : ℕ) × PutsPlanned Stands unrefused (to_delete id) o (closing_flush (fault_by r)) made o') w (λ o o' f. (f.0, ends id o r f.0 o' f.1))
 
 -- the count of faults
-kept-but : (f f' : ℕ) (e : StoreRefusal) → KeepsFaults {A = Unit {0}} (refusals.ObjectStoreError Unavailable) f f' (Err e) → (e ≡ refusals.ObjectStoreError Unavailable → ⊥) → f' ≡ f
-kept-but f f' e stays other = elim stays [ inl same ↦ same | inr fault ↦ absurd (other fault) ]
-
 ends-faults : (f f' n n' : ℕ) (r : Result (Unit {0}) StoreRefusal) → calls.CountsFaults f f' r → calls.CountsTries n n' r → CountsFaults f f' (closing_flush (fault_by r))
 ends-faults f f' n n' (Ok x) c t = record { count = c.count; unavailable = λ is. absurd (cc); stays = c.stays; none_missing = λ is. cc }
-ends-faults f f' n n' (Err (refusals.ObjectStoreError NotFound)) c t = absurd (t.none_missing refl)
-ends-faults f f' n n' (Err (refusals.ObjectStoreError Unavailable)) c t = record { count = c.count; unavailable = λ is. c.unavailable refl; stays = inr refl; none_missing = λ is. cc }
-ends-faults f f' n n' (Err (refusals.CheckpointMissing id)) c t = record { count = c.count; unavailable = λ is. absurd (cc); stays = inl (kept-but f f' _ c.stays (λ is. cc)); none_missing = λ is. cc }
-ends-faults f f' n n' (Err refusals.LatestTransactionalObjectVersionMissing) c t = record { count = c.count; unavailable = λ is. absurd (cc); stays = inl (kept-but f f' _ c.stays (λ is. cc)); none_missing = λ is. cc }
-ends-faults f f' n n' (Err refusals.Fenced) c t = record { count = c.count; unavailable = λ is. absurd (cc); stays = inl (kept-but f f' _ c.stays (λ is. cc)); none_missing = λ is. cc }
-ends-faults f f' n n' (Err refusals.InvalidDBState) c t = record { count = c.count; unavailable = λ is. absurd (cc); stays = inl (kept-but f f' _ c.stays (λ is. cc)); none_missing = λ is. cc }
-ends-faults f f' n n' (Err refusals.TransactionalObjectVersionExists) c t = record { count = c.count; unavailable = λ is. absurd (cc); stays = inl (kept-but f f' _ c.stays (λ is. cc)); none_missing = λ is. cc }
-ends-faults f f' n n' (Err (refusals.TransactionalObjectTimeout tries)) c t = record { count = c.count; unavailable = λ is. absurd (cc); stays = inl (kept-but f f' _ c.stays (λ is. cc)); none_missing = λ is. cc }
-ends-faults f f' n n' (Err refusals.NoMemory) c t = record { count = c.count; unavailable = λ is. absurd (cc); stays = inl (kept-but f f' _ c.stays (λ is. cc)); none_missing = λ is. cc }
+ends-faults f f' n n' (Err e) c t = counts-refused f f' e (λ is. t.none_missing (ap Err is)) c
 
 module _ (a b : Option Objects) (f f' n n' : ℕ) (lease : Lease) (tasks : List TaskName) where
   abbrev pub EndsSo : Result (Unit {0}) StoreRefusal → Type 0

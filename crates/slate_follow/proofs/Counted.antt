@@ -1,5 +1,5 @@
 -- How often a reader that keeps a checkpoint calls the store.
-use Rattle.std.proofs.Common.{◌≡◌, ℕ, zero, suc, ◌+◌, ◌-◌, ◌*◌, ◌<◌, ◌≤◌, max, map, length, length-append, is_none, not, Option, Some, None, Bool, true, false, cond, Ok, refl, sym, ap, subst, ◌∙◌, arith}
+use Rattle.std.proofs.Common.{◌≡◌, ℕ, zero, suc, inl, inr, ◌+◌, ◌-◌, ◌*◌, ◌<◌, ◌≤◌, max, map, length, length-append, is_none, not, Option, Some, None, Bool, true, false, cond, Ok, refl, sym, ap, subst, ◌∙◌, arith}
 use Rattle.std.proofs.lemmas.Bool.{le-leb}
 use Rattle.std.proofs.Math.Nat.{add-mul, mul-le-mul_right}
 use Rattle.std.specs.Option.{IfSome}
@@ -26,8 +26,10 @@ use Rattle.slate_model.specs.Open.{mark_of, replayed_logs}
 use Rattle.slate_model.specs.Stores.{Stands}
 use Rattle.slate_model.specs.declared.leases.Lease.{Lease}
 use Rattle.slate_follow.specs.Keeping.{CallsRound, FindsLatest, IsNews, PutsManifest, calls_to_keep}
+use Rattle.slate_follow.specs.Lagging.{IsLastTaken, readings}
 use Rattle.slate_follow.specs.Rebuilding.{CallsContinuing, CallsRebuilding, goes_on, last_above, new_logs}
 use Rattle.slate_follow.proofs.Continued.{greatest-greater}
+use Rattle.slate_follow.proofs.Lagging.{readings-more}
 use Rattle.slate_follow.specs.Growing.{IsPushed, added_to}
 use Rattle.slate_follow.proofs.Informed.{tabled-same}
 use Rattle.slate_follow.proofs.Leased.{HasCheckpoints, reads, written-form}
@@ -84,8 +86,8 @@ module _ (o : Objects) (latest : VersionedManifest) (is : latest_manifest o ≡ 
   free-read ManagedCheckpoint false free = (let same = all-logs in omega (arith, same))
 
   -- a reader reads no more under the latest manifest than an opening does
-  pub new-below : (f : Follower) → is_pinned f.mode ≡ false → new_logs f latest o ≤ replayed_logs o
-  new-below f free = by (goes_on f latest) where
+  pub new-below : (f : Follower) → is_pinned f.mode ≡ false → new_logs f latest o ≤ readings f.lag (replayed_logs o)
+  new-below f free = readings-more f.lag _ _ (by (goes_on f latest)) where
     by : (b : Bool) → cond b (last_above f latest o - max f.mark mark) (read_logs f.mode f.skips o (Some latest)) ≤ replayed_logs o
     by true = (let same = all-logs in let fewer = greater-fewer f.mark mark (map (λ log. log.0) o.logs) in omega (arith, same, fewer))
     by false = free-read f.mode f.skips free
@@ -103,15 +105,15 @@ module _ (o o' : Objects) (latest next : VersionedManifest) (form : HasCheckpoin
       let over : above o'.logs (m next) ≡ above o.logs (m latest) = ap (λ (x : Objects). above x.logs (m next)) after ∙ ap (above o.logs) marks in
       let reads : read_logs f.mode f.skips o' (Some next) ≡ read_logs f.mode f.skips o (Some latest) =
       subst (λ k. read_logs k f.skips o' (Some next) ≡ read_logs k f.skips o (Some latest)) (sym managed) (put-logs o o' latest next form after f.skips) in
-      ap (λ b. cond b (above o'.logs (m next)) (read_logs f.mode f.skips o' (Some next))) goes
-      ∙ (ap (λ n. cond (goes_on f latest) n (read_logs f.mode f.skips o' (Some next))) over ∙ ap (λ n. cond (goes_on f latest) (above o.logs (m latest)) n) reads)
+      ap (readings f.lag) (ap (λ b. cond b (above o'.logs (m next)) (read_logs f.mode f.skips o' (Some next))) goes
+      ∙ (ap (λ n. cond (goes_on f latest) n (read_logs f.mode f.skips o' (Some next))) over ∙ ap (λ n. cond (goes_on f latest) (above o.logs (m latest)) n) reads))
 
 -- a poll of a reader that follows the latest manifest
 module _ (latest : VersionedManifest) (t t1 : Option Objects) (kept : t1 ≡ t) (is : IfSome t (λ o. FindsLatest o (Ok latest))) (old : Follower) where
   found-at : (o : Objects) → t ≡ Some o → latest_manifest o ≡ Some latest
   found-at o at = some_at (λ o. FindsLatest o (Ok latest)) t o at is
 
-  pub follow-below : is_pinned old.mode ≡ false → (n n1 n' : ℕ) → n1 ≤ n + 1 → IfSome t1 (λ o. n' ≤ n1 + (new_logs old latest o + 1)) → IfSome t (λ o. CallsRebuilding o n n')
+  pub follow-below : is_pinned old.mode ≡ false → (n n1 n' : ℕ) → n1 ≤ n + 1 → IfSome t1 (λ o. n' ≤ n1 + (new_logs old latest o + 1)) → IfSome t (λ o. CallsRebuilding o old.lag n n')
   follow-below free n n1 n' one more = if_some t (λ o at.
       let a = some_at (λ o. n' ≤ n1 + (new_logs old latest o + 1)) t1 o (kept ∙ at) more in
       let b = new-below o latest (found-at o at) old free in
@@ -134,7 +136,7 @@ replaced-calls replaced lifetime moment latest next given gives t t1 puts f mana
     omega (arith, same, one, most))
 
 -- a reader that took what is new under a manifest has no more to read under it
-module _ (o : Objects) (latest : VersionedManifest) (old mid : Follower) (managed : mid.mode ≡ ManagedCheckpoint) (skips : mid.skips ≡ old.skips) (view : mid.view ≡ old.view) (low : old.view.manifest.last_l0_seq ≤ latest.manifest.last_l0_seq)
+module _ (o : Objects) (latest : VersionedManifest) (old mid : Follower) (managed : mid.mode ≡ ManagedCheckpoint) (skips : mid.skips ≡ old.skips) (lag : mid.lag ≡ old.lag) (view : mid.view ≡ old.view) (low : old.view.manifest.last_l0_seq ≤ latest.manifest.last_l0_seq)
     (reached : latest.manifest.last_l0_seq ≤ number old) (further : number old ≤ number mid) where
   goes-mid : (s : Bool) → old.skips ≡ s → goes_on mid latest ≡ not s
   goes-mid true is = ap (λ s. not s && (nat_le mid.view.manifest.last_l0_seq latest.manifest.last_l0_seq && nat_le latest.manifest.last_l0_seq (number mid))) (skips ∙ is)
@@ -157,14 +159,17 @@ module _ (o : Objects) (latest : VersionedManifest) (old mid : Follower) (manage
   abbrev ids : List ℕ
   ids = map (λ log. log.0) o.logs
 
+  abbrev logs-under : Follower → ℕ
+  logs-under f = cond (goes_on f latest) (last_above f latest o - max f.mark m) (read_logs f.mode f.skips o (Some latest))
+
   -- how many it reads, where it skips them or not
-  logs-of : (f : Follower) (s : Bool) → goes_on f latest ≡ not s → f.skips ≡ s → new_logs f latest o ≡ cond s (m - m) (greatest (max f.mark m) ids - max f.mark m)
+  logs-of : (f : Follower) (s : Bool) → goes_on f latest ≡ not s → f.skips ≡ s → logs-under f ≡ cond s (m - m) (greatest (max f.mark m) ids - max f.mark m)
   logs-of f true goes is = ap (λ b. cond b (last_above f latest o - max f.mark m) (read_logs f.mode f.skips o (Some latest))) goes ∙ ap (λ s. read_logs f.mode s o (Some latest)) is
   logs-of f false goes is = ap (λ b. cond b (last_above f latest o - max f.mark m) (read_logs f.mode f.skips o (Some latest))) goes
 
   pub mid-fewer : (old.skips ≡ false → max old.mark m ≤ mid.mark) → new_logs mid latest o ≤ new_logs old latest o
-  mid-fewer later = by old.skips refl where
-    by : (s : Bool) → old.skips ≡ s → new_logs mid latest o ≤ new_logs old latest o
+  mid-fewer later = subst (λ n. readings n (logs-under mid) ≤ new_logs old latest o) (sym lag) (readings-more old.lag (logs-under mid) (logs-under old) (by old.skips refl)) where
+    by : (s : Bool) → old.skips ≡ s → logs-under mid ≤ logs-under old
     by true is = (let a = logs-of mid true (goes-mid true is) (skips ∙ is) in omega (arith, a))
     by false is = (let a = logs-of mid false (goes-mid false is) (skips ∙ is) in
         let b = logs-of old false (goes-old false is) is in
@@ -175,9 +180,13 @@ module _ (o : Objects) (latest : VersionedManifest) (old mid : Follower) (manage
         omega (arith, a, b, low_mark, most, first, least))
 
 -- under the latest manifest it has read those above its mark
-pub news-later : (o : Objects) (latest : VersionedManifest) (old : Follower) (added : List Batch) (found : Replayed) (mark : ℕ) → IsNews o old latest false added found mark → max old.mark latest.manifest.replay_after_wal_id ≤ mark
-news-later o latest old added Whole mark news = (let is = news.1 in let least = at_least (max old.mark latest.manifest.replay_after_wal_id) (map (λ log. log.0) o.logs) in omega (arith, is, least))
-news-later o latest old added (Truncated id) mark news = (let is = news.1 in let over = news.0.ends.above in omega (arith, is, over))
+pub taken-later : (o : Objects) (lag number from last : ℕ) → IsLastTaken lag number from o last → from ≤ last
+taken-later o lag number from last (inl (most, why)) = (let least = at_least from (map (λ log. log.0) o.logs) in omega (arith, most, least))
+taken-later o lag number from last (inr (stands, may, waits)) = omega (arith, stands)
+
+news-later : (o : Objects) (latest : VersionedManifest) (old : Follower) (added : List Batch) (found : Replayed) (mark : ℕ) → IsNews o old latest false added found mark → max old.mark latest.manifest.replay_after_wal_id ≤ mark
+news-later o latest old added Whole mark (last, taken, logs, is) = (let least = taken-later o old.lag (number old) (max old.mark latest.manifest.replay_after_wal_id) last taken in omega (arith, is, least))
+news-later o latest old added (Truncated id) mark (last, taken, logs, is) = (let over = logs.ends.above in omega (arith, is, over))
 
 pub mid-fewer-at : (t : Option Objects) (latest : VersionedManifest) (old mid : Follower) (n m : ℕ) (had : Option (List (List ℕ))) → old.mode ≡ ManagedCheckpoint → differs old.view latest ≡ false → old.line.floor ≡ old.view.manifest.last_l0_seq → IsPushed old n m had mid → (found : Replayed) →
     {t1 : Option Objects} → t1 ≡ t → IfSome t1 (λ o. IsNews o old latest old.skips (added_to old.line.batches mid.line.batches) found mid.mark) → IfSome t (λ o. new_logs mid latest o ≤ new_logs old latest o)
@@ -187,7 +196,7 @@ mid-fewer-at t latest old mid n m had managed same floor pushed found {t1} kept 
     let tabled = tabled-same old.view latest same in
     let lengths = ap length pushed.parts ∙ length-append old.line.batches added in
     let base = ap (λ (f : Follower). f.line.floor) pushed.same in
-    mid-fewer o latest old mid (ap (λ (f : Follower). f.mode) pushed.same ∙ managed) (ap (λ (f : Follower). f.skips) pushed.same) (ap (λ (f : Follower). f.view) pushed.same)
+    mid-fewer o latest old mid (ap (λ (f : Follower). f.mode) pushed.same ∙ managed) (ap (λ (f : Follower). f.skips) pushed.same) (ap (λ (f : Follower). f.lag) pushed.same) (ap (λ (f : Follower). f.view) pushed.same)
     (omega (arith, tabled)) (omega (arith, tabled, floor)) (omega (arith, lengths, base))
     (λ reads. news-later o latest old added found mid.mark (subst (λ s. IsNews o old latest s added found mid.mark) reads here)))
 
@@ -196,7 +205,7 @@ module _ (latest : VersionedManifest) (t t1 : Option Objects) (kept : t1 ≡ t) 
   latest_is : (o : Objects) → t ≡ Some o → latest_manifest o ≡ Some latest
   latest_is o at = some_at (λ o. FindsLatest o (Ok latest)) t o at is
 
-  below : (f : Follower) → f.mode ≡ ManagedCheckpoint → (o : Objects) → t ≡ Some o → new_logs f latest o ≤ replayed_logs o
+  below : (f : Follower) → f.mode ≡ ManagedCheckpoint → (o : Objects) → t ≡ Some o → new_logs f latest o ≤ readings f.lag (replayed_logs o)
   below f f_managed o at = new-below o latest (latest_is o at) f (ap is_pinned f_managed)
 
   abbrev keeping : ℕ → ℕ
@@ -225,7 +234,7 @@ module _ (latest : VersionedManifest) (t t1 : Option Objects) (kept : t1 ≡ t) 
     then-at : (o : Objects) → t ≡ Some o → n' ≤ n1 + (new_logs old latest o + 2)
     then-at o at = some_at (λ o. n' ≤ n1 + (new_logs old latest o + 2)) t1 o (kept ∙ at) more
 
-    pub replaced-first : IfSome t (λ o. n' ≤ n + 2 * (replayed_logs o + 2))
+    pub replaced-first : IfSome t (λ o. n' ≤ n + 2 * (readings old.lag (replayed_logs o) + 2))
     replaced-first = if_some t (λ o at. (let a = then-at o at in let b = below old managed o at in omega (arith, one, a, b)))
 
     pub replaced-costs : differs old.view latest ≡ true → IfSome t (λ o. CallsRound o old lease moment n n')
@@ -236,11 +245,11 @@ module _ (latest : VersionedManifest) (t t1 : Option Objects) (kept : t1 ≡ t) 
     news-at : (o : Objects) → t ≡ Some o → n2 ≤ n1 + (new_logs old latest o + 1)
     news-at o at = some_at (λ o. differs old.view latest ≡ false → n2 ≤ n1 + (new_logs old latest o + 1)) t1 o (kept ∙ at) news same
 
-    pub news-then : n' ≤ n2 + 1 → IfSome t (λ o. n' ≤ n + (replayed_logs o + 3))
+    pub news-then : n' ≤ n2 + 1 → IfSome t (λ o. n' ≤ n + (readings old.lag (replayed_logs o) + 3))
     news-then more = if_some t (λ o at. (let a = news-at o at in let b = below old managed o at in omega (arith, one, more, a, b)))
 
-    pub news-once : n' ≤ n2 + 1 → IfSome t (λ o. n' ≤ n + 2 * (replayed_logs o + 2))
-    news-once more = if_some t (λ o at. (let a = some_at (λ o. n' ≤ n + (replayed_logs o + 3)) t o at (news-then more) in omega (arith, a)))
+    pub news-once : n' ≤ n2 + 1 → IfSome t (λ o. n' ≤ n + 2 * (readings old.lag (replayed_logs o) + 2))
+    news-once more = if_some t (λ o at. (let a = some_at (λ o. n' ≤ n + (readings old.lag (replayed_logs o) + 3)) t o at (news-then more) in omega (arith, a)))
 
     pub rest-costs : is_due moment lease ≡ false → n' ≤ n2 → IfSome t (λ o. CallsRound o old lease moment n n')
     rest-costs early more = keeping-at n' (λ o at. (let a = news-at o at in let k = resting same early (new_logs old latest o) in omega (arith, one, more, a, k)))
@@ -260,7 +269,7 @@ module _ (latest : VersionedManifest) (t t1 : Option Objects) (kept : t1 ≡ t) 
           let b = some_at (λ o. new_logs mid latest o ≤ new_logs old latest o) t o at fewer in
           omega (arith, a, b)
 
-      pub news-twice : IfSome t (λ o. n' ≤ n + 2 * (replayed_logs o + 2))
+      pub news-twice : IfSome t (λ o. n' ≤ n + 2 * (readings old.lag (replayed_logs o) + 2))
       news-twice = if_some t (λ o at. (let a = news-at o at in let d = more-at o at in let b = below old managed o at in omega (arith, one, a, d, b)))
 
       pub missing-costs : is_due moment lease ≡ true → is_none (found lease.id latest) ≡ true → IfSome t (λ o. CallsRound o old lease moment n n')
@@ -272,34 +281,34 @@ module _ (latest : VersionedManifest) (t t1 : Option Objects) (kept : t1 ≡ t) 
           omega (arith, one, a, d, k))
 
 -- the first try puts what its plan says, unless a manifest is there already, and then each one finds so
-pub first-costs : (plan : VersionedManifest → Plan Lease) (t t1 : Option Objects) (kept : t1 ≡ t) (earlier n n1 n' : ℕ) (old : Follower) (lease : Lease) (moment : ℤ) → IfSome t (λ o. n1 ≤ n + earlier * (replayed_logs o + 3)) →
+pub first-costs : (plan : VersionedManifest → Plan Lease) (t t1 : Option Objects) (kept : t1 ≡ t) (earlier n n1 n' : ℕ) (old : Follower) (lease : Lease) (moment : ℤ) → IfSome t (λ o. n1 ≤ n + earlier * (readings old.lag (replayed_logs o) + 3)) →
     (0 < earlier → IfSome t (λ o. PlanCause (Stands (checkpoint_changes plan o) o) plan o (TransactionalObjectTimeout 8))) → IfSome t1 (λ o. Stands (checkpoint_changes plan o) o → ⊥) → IfSome t1 (λ o. CallsRound o old lease moment n1 n') → IfSome t (λ o. CallsRound o old lease moment n n')
 first-costs plan t t1 kept zero n n1 n' old lease moment before met free costs = if_some t (λ o at latest is.
-    let a = some_at (λ o. n1 ≤ n + 0 * (replayed_logs o + 3)) t o at before in
+    let a = some_at (λ o. n1 ≤ n + 0 * (readings old.lag (replayed_logs o) + 3)) t o at before in
     let b = some_at (λ o. CallsRound o old lease moment n1 n') t1 o (kept ∙ at) costs latest is in
     omega (arith, a, b))
 first-costs plan t t1 kept (suc earlier) n n1 n' old lease moment before met free costs = if_some t (λ o at.
     absurd (some_at (λ o. Stands (checkpoint_changes plan o) o → ⊥) t1 o (kept ∙ at) free (some_at (λ o. PlanCause (Stands (checkpoint_changes plan o) o) plan o (TransactionalObjectTimeout 8)) t o at (met (omega arith))).1))
 
 -- tries that found another manifest first, and one more
-module _ (t t1 : Option Objects) (kept : t1 ≡ t) (earlier n n1 n' : ℕ) (before : IfSome t (λ o. n1 ≤ n + earlier * (replayed_logs o + 3))) where
-  pub tries-on : IfSome t1 (λ o. n' ≤ n1 + (replayed_logs o + 3)) → IfSome t (λ o. n' ≤ n + (earlier + 1) * (replayed_logs o + 3))
+module _ (t t1 : Option Objects) (kept : t1 ≡ t) (lag earlier n n1 n' : ℕ) (before : IfSome t (λ o. n1 ≤ n + earlier * (readings lag (replayed_logs o) + 3))) where
+  pub tries-on : IfSome t1 (λ o. n' ≤ n1 + (readings lag (replayed_logs o) + 3)) → IfSome t (λ o. n' ≤ n + (earlier + 1) * (readings lag (replayed_logs o) + 3))
   tries-on then = if_some t (λ o at.
-      let a = some_at (λ o. n1 ≤ n + earlier * (replayed_logs o + 3)) t o at before in
-      let b = some_at (λ o. n' ≤ n1 + (replayed_logs o + 3)) t1 o (kept ∙ at) then in
-      let one = add-mul earlier 1 (replayed_logs o + 3) in
+      let a = some_at (λ o. n1 ≤ n + earlier * (readings lag (replayed_logs o) + 3)) t o at before in
+      let b = some_at (λ o. n' ≤ n1 + (readings lag (replayed_logs o) + 3)) t1 o (kept ∙ at) then in
+      let one = add-mul earlier 1 (readings lag (replayed_logs o) + 3) in
       omega (arith, a, b, one))
 
-  pub last-try : earlier < 8 → IfSome t1 (λ o. n' ≤ n1 + 2 * (replayed_logs o + 2)) → IfSome t (λ o. n' ≤ n + (9 * replayed_logs o + 26))
+  pub last-try : earlier < 8 → IfSome t1 (λ o. n' ≤ n1 + 2 * (readings lag (replayed_logs o) + 2)) → IfSome t (λ o. n' ≤ n + (9 * readings lag (replayed_logs o) + 26))
   last-try fewer then = if_some t (λ o at.
-      let a = some_at (λ o. n1 ≤ n + earlier * (replayed_logs o + 3)) t o at before in
-      let b = some_at (λ o. n' ≤ n1 + 2 * (replayed_logs o + 2)) t1 o (kept ∙ at) then in
-      let most = mul-le-mul_right (replayed_logs o + 3) (omega (arith, fewer)) in
-      let seven : earlier * (replayed_logs o + 3) ≤ 7 * (replayed_logs o + 3) = most in
+      let a = some_at (λ o. n1 ≤ n + earlier * (readings lag (replayed_logs o) + 3)) t o at before in
+      let b = some_at (λ o. n' ≤ n1 + 2 * (readings lag (replayed_logs o) + 2)) t1 o (kept ∙ at) then in
+      let most = mul-le-mul_right (readings lag (replayed_logs o) + 3) (omega (arith, fewer)) in
+      let seven : earlier * (readings lag (replayed_logs o) + 3) ≤ 7 * (readings lag (replayed_logs o) + 3) = most in
       omega (arith, a, b, seven))
 
-pub all-tries : (t : Option Objects) (earlier n n1 : ℕ) → IfSome t (λ o. n1 ≤ n + earlier * (replayed_logs o + 3)) → earlier ≤ 8 → IfSome t (λ o. n1 ≤ n + (9 * replayed_logs o + 26))
-all-tries t earlier n n1 before within = if_some t (λ o at.
-    let a = some_at (λ o. n1 ≤ n + earlier * (replayed_logs o + 3)) t o at before in
-    let most : earlier * (replayed_logs o + 3) ≤ 8 * (replayed_logs o + 3) = mul-le-mul_right (replayed_logs o + 3) within in
+pub all-tries : (t : Option Objects) (lag earlier n n1 : ℕ) → IfSome t (λ o. n1 ≤ n + earlier * (readings lag (replayed_logs o) + 3)) → earlier ≤ 8 → IfSome t (λ o. n1 ≤ n + (9 * readings lag (replayed_logs o) + 26))
+all-tries t lag earlier n n1 before within = if_some t (λ o at.
+    let a = some_at (λ o. n1 ≤ n + earlier * (readings lag (replayed_logs o) + 3)) t o at before in
+    let most : earlier * (readings lag (replayed_logs o) + 3) ≤ 8 * (readings lag (replayed_logs o) + 3) = mul-le-mul_right (readings lag (replayed_logs o) + 3) within in
     omega (arith, a, most))

@@ -1,5 +1,5 @@
 -- A begun poll follows the line that is stored, from call to call.
-use Rattle.std.proofs.Common.{◌≡◌, ◌∙◌, ℕ, ℤ, suc, ◌+◌, zero, ◌<◌, ◌≤◌, ◌++◌, max, Bool, true, false, not, Result, ◌&&◌, ◌==◌, ltb, cond, if◌then◌else◌, inl, inr, List, [], ◌∷◌, length, filter, map, Option, Some, None, Ok, Err, refl, rules, arith, ap, sym, subst}
+use Rattle.std.proofs.Common.{◌≡◌, ◌∙◌, ℕ, ℤ, suc, ◌+◌, ◌-◌, zero, ◌<◌, ◌≤◌, ◌++◌, max, Bool, true, false, not, Result, ◌&&◌, ◌||◌, ◌==◌, ltb, cond, if◌then◌else◌, inl, inr, List, [], ◌∷◌, length, filter, map, Option, Some, None, Ok, Err, refl, rules, arith, ap, sym, subst}
 use Rattle.std.specs.List.{slice_index_or}
 use Rattle.std.specs.Prelude.{All, Contains, flat_map, nat_le, nat_lt, ◌⊎◌, unwrap_or, IsSomeAnd}
 use Rattle.std.proofs.lemmas.List.Elements.{All-append, All-contains, All-contains_itself, All-cons, All-filter, All-head, All-nil, All-tail, Contains-append_left, Contains-append_right}
@@ -21,7 +21,7 @@ use Rattle.slate_store.specs.declared.objects.Checkpoint.{Checkpoint}
 use Rattle.slate_store.specs.declared.refusals.StoreRefusal.TheVariants as refusals
 use Rattle.slate_store.specs.Checkpoints.{puts_next, refreshed, to_end, with_checkpoints}
 use Rattle.slate_store.specs.Checkpoints.{Plan, found, lease_end, new_checkpoint, to_refresh, to_write, without_replaced}
-use Rattle.slate_model.specs.Begun.{AsksLast, Begun, Breaks, Ended, Ends, Fails, Goes, Puts, ReadsAgain, ReadsLatest, ReadsLog, Stage, Turn, asked_last, asked_lease, base_of, begun_at, committed, decided, emptied, kept_batches, kept_lease, leads_on, noted, overtaken_by, put_by, reached_number, read_again, replayed, replaying, taken, view_of, with_log, with_step}
+use Rattle.slate_model.specs.Begun.{AsksLast, Begun, Breaks, Ended, Ends, Fails, Goes, LooksAt, Puts, ReadsAgain, ReadsLatest, ReadsLog, Stage, Turn, asked_last, asked_lease, base_of, begun_at, committed, decided, emptied, first_log, greatest_number, kept_batches, kept_lease, leads_on, noted, overtaken_by, put_by, reached_number, read_again, replayed, replaying, taken, view_of, with_log, with_step}
 use Rattle.slate_model.specs.Follower.{Follower, is_managed, number}
 use Rattle.slate_model.specs.Lease.{differs, is_due, lease_of, leased}
 use Rattle.slate_model.specs.declared.leases.Lease.{Lease}
@@ -33,7 +33,7 @@ use Rattle.slate_replay.specs.Replay.{LogBelongsTo, line_of}
 use Rattle.slate_replay.specs.declared.replays.Replayed.{Replayed}
 use Rattle.slate_replay.specs.declared.replays.Replayed.TheVariants.{Whole, Truncated}
 use Rattle.slate_replay.specs.Replay.{ReplaysNext}
-use Rattle.slate_follow.specs.Stepping.{Meets, MeetsAt, Steps, failed_by, log_turn}
+use Rattle.slate_follow.specs.Stepping.{LooksTo, Meets, MeetsAt, Steps, failed_by, log_turn}
 use Rattle.slate_model.specs.Managed.{poll_result}
 use Rattle.std.specs.Result.{IfErr}
 use Rattle.slate_types.specs.Modelled.{WhereModelled}
@@ -427,18 +427,31 @@ module _ (o : Objects) (sound : IsSound o) (reader : Follower) (begun : Begun) (
       by true = none-of (content o)
       by false = none-of (content o)
 
-  asked-of : (last : ℕ) → AreOf (fresh-of (Goes (asked_last last (taken begun)))) (content o)
+  asked-of : (last : ℕ) → AreOf (fresh-of (Goes (asked_last reader last (taken begun)))) (content o)
   asked-of last = by (nat_lt begun.mark last)
     where
-      by : (b : Bool) → AreOf (fresh-of (Goes (if b then record (taken begun) { stage = ReadsLog last; history = with_log last (with_step begun.history) } else record (taken begun) { stage = ReadsAgain }))) (content o)
+      by : (b : Bool) → AreOf (fresh-of (Goes (if b then record (taken begun) { stage = first_log reader last; history = with_log last (with_step begun.history) } else record (taken begun) { stage = ReadsAgain }))) (content o)
       by true = f.fresh
       by false = f.fresh
+
+  looked-of : (latest : VersionedManifest) (id last : ℕ) (log : Option (List Batch)) (turn : Turn) → LooksTo reader latest id last (taken begun) log turn → AreOf (fresh-of turn) (content o)
+  looked-of latest id last None turn is = subst (λ (t : Turn). AreOf (fresh-of t) (content o)) (sym is) f.fresh
+  looked-of latest id last (Some batches) turn is = subst (λ (t : Turn). AreOf (fresh-of t) (content o)) (sym is) (by (nat_lt (reached_number begun + reader.lag) newest) (nat_lt (reached_number begun) newest || id == begun.mark + 1))
+    where
+      newest : ℕ
+      newest = greatest_number batches
+
+      by : (x y : Bool) → AreOf (fresh-of (if x then Goes (record (taken begun) { stage = ReadsLog last }) else (if y then replayed latest (taken begun) else Goes (record (taken begun) { stage = LooksAt (id - 1) last })))) (content o)
+      by true y = f.fresh
+      by false true = replayed-of (content o) latest (taken begun) f.fresh
+      by false false = f.fresh
 
   turn-of : (stage : Stage) (turn : Turn) (o' : Objects) → begun.stage ≡ stage → MeetsAt stage reader (taken begun) o turn o' → AreOf (fresh-of turn) (content o)
   turn-of ReadsLatest turn o' at m = subst (λ (t : Turn). AreOf (fresh-of t) (content o)) (sym m.2) (decided-of (content o) reader m.0 begun.lease (noted m.0 (taken begun)) f.fresh)
   turn-of (Puts next given replaces) turn o' at (inl m) = subst (λ (t : Turn). AreOf (fresh-of t) (content o)) (sym m.1) (committed-of (content o) reader next given replaces (taken begun) f.fresh)
   turn-of (Puts next given replaces) turn o' at (inr m) = subst (λ (t : Turn). AreOf (fresh-of t) (content o)) (sym m.1) overtaken-of
   turn-of AsksLast turn o' at m = subst (λ (t : Turn). AreOf (fresh-of t) (content o)) (sym m.0) (asked-of (last_log begun.mark o))
+  turn-of (LooksAt id last) turn o' at m = looked-of m.0 id last (log_at id o) turn m.2
   turn-of (ReadsLog last) turn o' at m =
       let replaying = subst (λ (x : Stage). StandsAt x begun (content o) o) at f.next in
       subst (λ (t : Turn). AreOf (fresh-of t) (content o)) (sym m.5) (log-of (content o) m.0 last m.1 m.2 (taken begun) (log-read m.0 m.1 m.2 (replaying m.0 m.3) m.4))
@@ -494,17 +507,46 @@ module _ (o : Objects) (sound : IsSound o) (reader : Follower) (begun : Begun) (
           let same : begun_at begun.moment (begun.overtaken + 1) (with_step begun.history) reader ≡ after = cc in
           subst (λ (b : Begun). FollowsLine o (content o) reader b) same (keeps-own (begun_at begun.moment (begun.overtaken + 1) (with_step begun.history) reader) o (none-of (content o)) f.begins refl)
 
-  asked-goes : (last : ℕ) (after : Begun) → IsReplaying begun (content o) o → Goes (asked_last last (taken begun)) ≡ Goes after → FollowsLine o (content o) reader after
+  -- it has come where it was
+  still-goes : (stage : Stage) (history : PollHistory) → ((line : Line) (objects : Objects) (b : Begun) → IsReplaying b line objects → StandsAt stage b line objects) → IsReplaying begun (content o) o → FollowsLine o (content o) reader (record (taken begun) { stage = stage; history = history })
+  still-goes stage history stands replaying =
+      let after = record (taken begun) { stage = stage; history = history } in
+      keeps-own after o f.fresh f.low (stands (content o) o after (λ v is. let r = replaying v is in record { above = r.above; reached = r.reached; are = r.are }))
+
+  asked-goes : (last : ℕ) (after : Begun) → IsReplaying begun (content o) o → Goes (asked_last reader last (taken begun)) ≡ Goes after → FollowsLine o (content o) reader after
   asked-goes last after replaying turn = by (nat_lt begun.mark last) turn
     where
-      by : (b : Bool) → Goes (if b then record (taken begun) { stage = ReadsLog last; history = with_log last (with_step begun.history) } else record (taken begun) { stage = ReadsAgain }) ≡ Goes after → FollowsLine o (content o) reader after
+      history : PollHistory
+      history = with_log last (with_step begun.history)
+
+      first : (b : Bool) → FollowsLine o (content o) reader (record (taken begun) { stage = (if b then ReadsLog last else LooksAt last last); history = history })
+      first true = still-goes (ReadsLog last) history (λ line objects b stands. stands) replaying
+      first false = still-goes (LooksAt last last) history (λ line objects b stands. stands) replaying
+
+      by : (b : Bool) → Goes (if b then record (taken begun) { stage = first_log reader last; history = with_log last (with_step begun.history) } else record (taken begun) { stage = ReadsAgain }) ≡ Goes after → FollowsLine o (content o) reader after
       by true turn =
-          let same : record (taken begun) { stage = ReadsLog last; history = with_log last (with_step begun.history) } ≡ after = cc in
-          subst (λ (b : Begun). FollowsLine o (content o) reader b) same
-          (keeps-own (record (taken begun) { stage = ReadsLog last; history = with_log last (with_step begun.history) }) o f.fresh f.low (λ v is. let r = replaying v is in record { above = r.above; reached = r.reached; are = r.are }))
+          let same : record (taken begun) { stage = first_log reader last; history = with_log last (with_step begun.history) } ≡ after = cc in
+          subst (λ (b : Begun). FollowsLine o (content o) reader b) same (first (reader.lag == 0))
       by false turn =
           let same : record (taken begun) { stage = ReadsAgain } ≡ after = cc in
           subst (λ (b : Begun). FollowsLine o (content o) reader b) same (keeps-own (record (taken begun) { stage = ReadsAgain }) o f.fresh f.low tt)
+
+  looked-goes : (latest : VersionedManifest) (id last : ℕ) (log : Option (List Batch)) (after : Begun) → begun.latest ≡ Some latest → IsReplaying begun (content o) o → LooksTo reader latest id last (taken begun) log (Goes after) → FollowsLine o (content o) reader after
+  looked-goes latest id last None after held replaying turn = absurd (cc)
+  looked-goes latest id last (Some batches) after held replaying turn = by (nat_lt (reached_number begun + reader.lag) newest) (nat_lt (reached_number begun) newest || id == begun.mark + 1) turn
+    where
+      newest : ℕ
+      newest = greatest_number batches
+
+      by : (x y : Bool) → Goes after ≡ (if x then Goes (record (taken begun) { stage = ReadsLog last }) else (if y then replayed latest (taken begun) else Goes (record (taken begun) { stage = LooksAt (id - 1) last }))) → FollowsLine o (content o) reader after
+      by true y turn =
+          let same : record (taken begun) { stage = ReadsLog last } ≡ after = cc in
+          subst (λ (b : Begun). FollowsLine o (content o) reader b) same (still-goes (ReadsLog last) (with_step begun.history) (λ line objects b stands. stands) replaying)
+      by false true turn =
+          puts-follow o (content o) reader latest after (record (taken begun) { asked = true }) f.own f.begins (replaying latest held).are f.fresh f.low (replayed-puts latest (taken begun) after (sym turn))
+      by false false turn =
+          let same : record (taken begun) { stage = LooksAt (id - 1) last } ≡ after = cc in
+          subst (λ (b : Begun). FollowsLine o (content o) reader b) same (still-goes (LooksAt (id - 1) last) (with_step begun.history) (λ line objects b stands. stands) replaying)
 
   log-goes : (latest : VersionedManifest) (last : ℕ) (fresh : List Batch) (found : Replayed) (after : Begun) → begun.latest ≡ Some latest → Replaying latest begun (content o) o →
       ReplaysNext (begun.mark + 1) begun.floor begun.fresh fresh o (Ok found) → log_turn found latest last fresh (taken begun) ≡ Goes after → FollowsLine o (content o) reader after
@@ -546,6 +588,9 @@ module _ (o : Objects) (sound : IsSound o) (reader : Follower) (begun : Begun) (
   stage-goes AsksLast after o' at m =
       let replaying = subst (λ (x : Stage). StandsAt x begun (content o) o) at f.next in
       subst (λ x. FollowsLine x (content o) reader after) (sym m.1) (asked-goes (last_log begun.mark o) after replaying (sym m.0))
+  stage-goes (LooksAt id last) after o' at m =
+      let replaying = subst (λ (x : Stage). StandsAt x begun (content o) o) at f.next in
+      subst (λ x. FollowsLine x (content o) reader after) (sym m.3) (looked-goes m.0 id last (log_at id o) after m.1 replaying m.2)
   stage-goes (ReadsLog last) after o' at m =
       let replaying = subst (λ (x : Stage). StandsAt x begun (content o) o) at f.next in
       subst (λ x. FollowsLine x (content o) reader after) (sym m.6) (log-goes m.0 last m.1 m.2 after m.3 (replaying m.0 m.3) m.4 (sym m.5))
@@ -621,6 +666,7 @@ others-keep o o' line line' reader begun grows logs f = record {
       ];
     }
     at AsksLast is = replaying is
+    at (LooksAt id last) is = replaying is
     at (ReadsLog last) is = replaying is
     at ReadsAgain is = tt
     at Ended is = tt

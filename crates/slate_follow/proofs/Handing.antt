@@ -12,8 +12,8 @@ use Rattle.slate_store.specs.declared.objects.VersionedManifest.{VersionedManife
 use Rattle.slate_store.specs.declared.reader_modes.DbReaderMode.TheVariants.{ManagedCheckpoint}
 use Rattle.slate_model.proofs.Reduced.{some-same}
 use Rattle.slate_model.specs.Changes.{after_part}
-use Rattle.slate_model.specs.Follow.{SeesOwed}
-use Rattle.slate_model.specs.Follower.{Follower}
+use Rattle.slate_model.specs.Follow.{SeesPolled}
+use Rattle.slate_model.specs.Follower.{Follower, is_pinned}
 use Rattle.slate_model.specs.Known.{IsContent}
 use Rattle.slate_model.specs.Lease.{differs, is_due, lease_of, leased, replaces, to_keep}
 use Rattle.slate_errors.specs.declared.errors.SlateError.{SlateError}
@@ -24,7 +24,7 @@ use Rattle.slate_model.specs.Segments.{Extractor}
 use Rattle.slate_model.specs.Stores.{by_objects, kept_seen}
 use Rattle.slate_model.specs.declared.answers.PollAnswer.{PollAnswer}
 use Rattle.slate_model.specs.declared.leases.Lease.{Lease}
-use Rattle.slate_follow.proofs.Handed.{sound-handed}
+use Rattle.slate_follow.proofs.Handed.{sound-polled}
 use Rattle.slate_follow.proofs.Informed.{seen-after, tabled-same, under-seen}
 use Rattle.slate_follow.proofs.Keeping.{to-renewal, to-replace, to-stay}
 use Rattle.slate_follow.proofs.Leased.{PutsKept, put-is, renewed, written}
@@ -88,7 +88,7 @@ module _ (t : Option Objects) (o : Objects) (at : t ≡ Some o) (line : Line) (s
   pub failed-seen : (latest m : VersionedManifest) → latest_manifest o ≡ Some latest → PutsKept o latest m → kept_seen old (changed (PutManifest m.id m.manifest) o) line
   failed-seen latest m is put =
       let here = subst (kept_seen old o) line_is seen in
-      subst (kept_seen old (changed (PutManifest m.id m.manifest) o)) ((put.keeps sound).1 ∙ sym line_is) (seen-after o latest m is put old old (comes-itself o old managed) sound here)
+      subst (kept_seen old (changed (PutManifest m.id m.manifest) o)) ((put.keeps sound).1 ∙ sym line_is) (seen-after o latest m is put old old (comes-itself o latest is old managed) sound here)
 
   module _ (lease : Lease) (moment : ℤ) (made : ℕ) where
     by-plan : (latest : VersionedManifest) → latest_manifest o ≡ Some latest → (p : Plan Lease) → to_keep old.view lease moment latest ≡ p → kept_seen old (after_part made (planned p) o) line
@@ -110,15 +110,15 @@ module _ (t : Option Objects) (o : Objects) (at : t ≡ Some o) (line : Line) (s
     abbrev l : VersionedManifest
     l = unwrap_or keeps.next keeps.latest
 
-    sees : SeesOwed (by_objects t) ManagedCheckpoint old.skips o' line (follower_under l new) answer
+    sees : SeesPolled (by_objects t) old o' line (follower_under l new) answer
     sees = keeps.sees.sees line stored seen
 
     -- by the manifest that it goes by then
-    from-latest : IsSound o' → content o' ≡ content o → latest_manifest o' ≡ Some l → new.view.manifest.last_l0_seq ≡ l.manifest.last_l0_seq → kept_seen new o' line
-    from-latest sound' content_is is tabled =
+    from-latest : IsSound o' → content o' ≡ content o → latest_manifest o' ≡ Some l → kept_seen old o' (content o') → new.view.manifest.last_l0_seq ≡ l.manifest.last_l0_seq → kept_seen new o' line
+    from-latest sound' content_is is before tabled =
         let to : line ≡ content o' = line_is ∙ sym content_is in
-        let owed = subst (λ s. SeesOwed (by_objects t) ManagedCheckpoint old.skips o' s (follower_under l new) answer) to sees in
-        let under = sound-handed t o' ManagedCheckpoint old.skips false (follower_under l new) answer sound' (latest-can o' l is ManagedCheckpoint refl) refl owed in
+        let polled = subst (λ s. SeesPolled (by_objects t) old o' s (follower_under l new) answer) to sees in
+        let under = sound-polled t o' old (follower_under l new) answer sound' (latest-can o' l is old.mode (ap is_pinned managed)) (ap is_pinned managed) before polled in
         subst (kept_seen new o') (sym to) (under-seen o' (content o') l new tabled under)
 
     tabled-by : (r : Bool) → replaces old.view lease moment keeps.latest ≡ r → (l.manifest.last_l0_seq ≡ keeps.latest.manifest.last_l0_seq) → MatchBool r (keeps.next ≡ Some new.view) (new.view ≡ old.view) → new.view.manifest.last_l0_seq ≡ l.manifest.last_l0_seq
@@ -135,7 +135,7 @@ module _ (t : Option Objects) (o : Objects) (at : t ≡ Some o) (line : Line) (s
           let zero_made : made ≡ 0 = part ∙ ap length changes in
           let kept : o' ≡ o = after ∙ (ap (λ k. after_part k (checkpoint_changes (to_keep old.view lease moment) o) o) zero_made ∙ ap (λ cs. after_part 0 cs o) changes) in
           let latest_is : l ≡ keeps.latest = ap (λ n. unwrap_or n keeps.latest) none in
-          from-latest (subst IsSound (sym kept) sound) (ap content kept) (ap latest_manifest kept ∙ (keeps.is_latest ∙ ap Some (sym latest_is)))
+          from-latest (subst IsSound (sym kept) sound) (ap content kept) (ap latest_manifest kept ∙ (keeps.is_latest ∙ ap Some (sym latest_is))) (subst (λ s. kept_seen old s (content s)) (sym kept) (subst (kept_seen old o) line_is seen))
           (tabled-by (replaces old.view lease moment keeps.latest) refl (ap (λ (v : VersionedManifest). v.manifest.last_l0_seq) latest_is) keeps.view)
       by-next (Some m) some =
           let changes = changes-by (Some m) some in
@@ -146,6 +146,7 @@ module _ (t : Option Objects) (o : Objects) (at : t ≡ Some o) (line : Line) (s
           let its = put.keeps sound in
           let tables = ap (λ (v : VersionedManifest). v.manifest.last_l0_seq) (latest_is ∙ put.form.1) in
           from-latest (subst IsSound (sym kept) its.0) (ap content kept ∙ its.1) (ap latest_manifest kept ∙ (put-is o keeps.latest m sound keeps.is_latest put.form ∙ ap Some (sym latest_is)))
+          (subst (λ s. kept_seen old s (content s)) (sym kept) (seen-after o keeps.latest m keeps.is_latest put old old (comes-itself o keeps.latest keeps.is_latest old managed) sound (subst (kept_seen old o) line_is seen)))
           (tabled-by (replaces old.view lease moment keeps.latest) refl tables keeps.view)
 
       pub kept-handed : kept_seen new o' line

@@ -12,6 +12,7 @@ use Rattle.slate_store.specs.declared.reader_modes.DbReaderMode.TheVariants.{Man
 use Rattle.slate_replay.specs.declared.replays.Replayed.{Replayed}
 use Rattle.slate_errors.specs.declared.errors.SlateError.{SlateError}
 use Rattle.slate_model.specs.Changes.{after_part}
+use Rattle.slate_model.specs.Follow.{SeesPolled}
 use Rattle.slate_model.specs.Follower.{Follower, number, unsegmented}
 use Rattle.slate_model.specs.Lease.{differs, is_due, leased, replaces, to_keep, to_renew}
 use Rattle.slate_model.specs.Managed.{Keeps, KeepsOrNot, PutsPlanned, SeesLatest, follower_under}
@@ -97,7 +98,7 @@ module _ (refused : Objects → SlateError → Type 0) (t : Option Objects) (o o
         plan = to-replace old.view latest lease moment replaced ∙ b.puts;
         leased = given-lease refused p old.lease new.lease o o' answer (Some new.view) b.given b.puts puts;
         view = subst (λ r. MatchBool r (Some new.view ≡ Some new.view) (new.view ≡ old.view)) (sym replaced) refl;
-        sees = subst (λ x. SeesLatest (by_objects t) old.skips (kept_seen old o) new.view x new answer) (sym after) (taken-latest o latest new.view is kept old from comes new answer takes t at);
+        sees = subst (λ x. SeesLatest (by_objects t) old.skips old.lag (SeesPolled (by_objects t) old) (kept_seen old o) new.view x new answer) (sym after) (taken-latest o latest new.view is kept old from comes new answer takes t at);
       }
 
   -- it goes on by its view
@@ -117,7 +118,7 @@ module _ (refused : Objects → SlateError → Type 0) (t : Option Objects) (o o
       plan = to-stay old.view latest lease moment unreplaced early;
       leased = lease_is;
       view = subst (λ r. MatchBool r (None ≡ Some new.view) (new.view ≡ old.view)) (sym unreplaced) (view_is old.skips becomes);
-      sees = subst (λ x. SeesLatest (by_objects t) old.skips (kept_seen old o) latest x new answer) (sym after)
+      sees = subst (λ x. SeesLatest (by_objects t) old.skips old.lag (SeesPolled (by_objects t) old) (kept_seen old o) latest x new answer) (sym after)
           (informed-sees o o latest latest is refl refl refl old managed same floor added found mark new.lease new answer answers t at news becomes);
     }
 
@@ -137,6 +138,6 @@ module _ (refused : Objects → SlateError → Type 0) (t : Option Objects) (o o
           plan = to-renewal old.view latest lease moment unreplaced due ∙ gives;
           leased = given-lease refused p old.lease new.lease o o' answer (Some next) given gives puts;
           view = subst (λ r. MatchBool r (Some next ≡ Some new.view) (new.view ≡ old.view)) (sym unreplaced) (view_is old.skips becomes);
-          sees = subst (λ x. SeesLatest (by_objects t) old.skips (kept_seen old o) next x new answer) (sym after)
+          sees = subst (λ x. SeesLatest (by_objects t) old.skips old.lag (SeesPolled (by_objects t) old) (kept_seen old o) next x new answer) (sym after)
               (informed-sees o (changed (PutManifest next.id next.manifest) o) latest next is refl tables replayed old managed same floor added found mark new.lease new answer answers t at news becomes);
         }

@@ -7,7 +7,7 @@ use Rattle.slate_types.specs.Line.{Line, batches_above}
 use Rattle.slate_types.specs.Modelled.{WhereModelled}
 use Rattle.slate_store.specs.Checkpoints.{Plan}
 use Rattle.slate_store.specs.Content.{IsSound, content}
-use Rattle.slate_store.specs.Objects.{Objects, PutManifest, changed, last_log, latest_manifest}
+use Rattle.slate_store.specs.Objects.{Objects, PutManifest, changed, latest_manifest}
 use Rattle.slate_store.specs.Refusals.{PlanIs}
 use Rattle.slate_store.specs.declared.objects.VersionedManifest.{VersionedManifest}
 use Rattle.slate_store.specs.declared.reader_modes.DbReaderMode.TheVariants.{ManagedCheckpoint}
@@ -32,12 +32,13 @@ use Rattle.slate_model.specs.declared.answers.PollAnswer.TheVariants.{Whole}
 use Rattle.slate_model.specs.declared.leases.Lease.{Lease}
 use Rattle.slate_follow.specs.Keeping.{ComesFrom, FindsLatest, KeepLacks, NewsLacks, NextLacks, OnLacks, PutsBy, PutsManifest, ReplaceLacks}
 use Rattle.slate_follow.specs.Growing.{ExtendingLacks}
+use Rattle.slate_follow.specs.Lagging.{IsLastTaken}
 use Rattle.slate_follow.specs.Rebuilding.{Lacks, Reaches, TakingLacks}
 use Rattle.slate_follow.proofs.Continued.{goes-refuses, taking-some}
 use Rattle.slate_follow.proofs.Informed.{tabled-same, taken-lacking}
 use Rattle.slate_follow.proofs.Keeping.{renewal, replacement, to-renewal, to-replace}
 use Rattle.slate_follow.proofs.Leased.{HasCheckpoints, PutsKept, put-is, written}
-use Rattle.slate_follow.proofs.Rebuilt.{builds-refuses, if_some, refuses_stored, some_at}
+use Rattle.slate_follow.proofs.Rebuilt.{at_stored, builds-refuses, if_some, some_at}
 use Rattle.slate_follow.proofs.Refusing.{lacks-some}
 
 -- ---- what a manifest refuses that was put after another, that one does
@@ -71,16 +72,16 @@ module _ (o : Objects) (latest next : VersionedManifest) (is : latest_manifest o
       Replays next.manifest.replay_after_wal_id (last_read ManagedCheckpoint skips next after) next.manifest.last_l0_seq [] batches after (Ok found) → unsegmented_refusal x (ops_of batches) ≡ refusal →
       (stored : Line) → t ≡ Some o → IsContent t stored → ReplayRefuses (by_objects t) x ManagedCheckpoint skips opening o stored refusal
   put-refuses t x skips opening refusal follows batches found logs refused stored at content_is =
-      refuses_stored x ManagedCheckpoint skips opening refusal o stored at content_is
+      at_stored (λ l. ReplayRefuses (by_objects t) x ManagedCheckpoint skips opening o l refusal) o stored at content_is
       (λ sound _.
       let kept = put.keeps sound in
       let next_is = put-is o latest next sound is put.form in
       let last = last_read ManagedCheckpoint skips next after in
       let can : IsView ManagedCheckpoint opening after next = (next, next_is, ap (can_follow opening) put.form.1 ∙ follows, refl) in
-      let plain = rebuilt ManagedCheckpoint skips next (line_from next.manifest.last_l0_seq batches) last in
+      let plain = rebuilt ManagedCheckpoint skips 0 next (line_from next.manifest.last_l0_seq batches) last in
       refuses-on t x opening o after latest next is next_is put.form (content o) refusal skips
       (subst (λ l. ReplayRefuses (by_objects t) x ManagedCheckpoint skips opening after l refusal) kept.1
-      (builds-refuses ManagedCheckpoint skips opening after next last (can, refl) plain (Whole 0) t x refusal kept.0 batches found logs refused)))
+      (builds-refuses ManagedCheckpoint skips opening 0 after next last (can, refl) plain (Whole 0) t x refusal kept.0 batches found logs refused)))
 
 -- ---- a poll
 module _ (t : Option Objects) (x : Option Extractor) (lease : Lease) (moment : ℤ) (old : Follower) (o : Objects) (stored : Line) (at : t ≡ Some o) (content_is : IsContent t stored) (latest : VersionedManifest) (is : latest_manifest o ≡ Some latest) where
@@ -98,13 +99,13 @@ module _ (t : Option Objects) (x : Option Extractor) (lease : Lease) (moment : �
 
   -- or as it goes on
   on-lacks : kept_seen old o stored → OnLacks x old latest o → LacksSegment (by_objects t) x ManagedCheckpoint old.skips false o stored
-  on-lacks seen (managed, reads, reaches, (key, lacks)) =
+  on-lacks seen (managed, reads, reaches, last, taken, (key, lacks)) =
       let refusal = Some (errors.EmptySegmentPrefix key) in (
         key,
-        refuses_stored x ManagedCheckpoint old.skips false refusal o stored at content_is
+        at_stored (λ l. ReplayRefuses (by_objects t) x ManagedCheckpoint old.skips false o l refusal) o stored at content_is
             (λ sound line.
             subst (λ m. ReplayRefuses (by_objects t) x m old.skips false o (content o) refusal) managed
-            (goes-refuses t x o latest old key reads (ap is_pinned managed) sound is (subst (kept_seen old o) line seen) reaches lacks)),
+            (goes-refuses t x o latest last old key reads (ap is_pinned managed) sound is (subst (kept_seen old o) line seen) reaches taken lacks)),
       )
 
   lacks-by : kept_seen old o stored → (to_keep old.view lease moment latest ≡ Err refusals.InvalidDBState) ⊎ (((from : Follower) × ComesFrom old from o × NextLacks x (replacement old.view latest lease moment) from o) ⊎ OnLacks x old latest o) →
@@ -125,15 +126,15 @@ put-lacks x plan old next given gives t t1 puts lacks =
 
 -- what it takes lacks one, by the steps of that
 pub taken-lacks : (t t1 : Option Objects) (x : Option Extractor) (latest : VersionedManifest) (last from tabled : ℕ) (old : Follower) → t1 ≡ t → IfSome t1 (λ o. (key : List ℕ) × ExtendingLacks x from last tabled old o key) →
-    from ≡ max old.mark latest.manifest.replay_after_wal_id → tabled ≡ old.view.manifest.last_l0_seq → IfSome t (λ o. last ≡ last_log from o) → old.skips ≡ false → IfSome t (λ o. NewsLacks x old latest o)
+    from ≡ max old.mark latest.manifest.replay_after_wal_id → tabled ≡ old.view.manifest.last_l0_seq → IfSome t (λ o. IsLastTaken old.lag (number old) from o last) → old.skips ≡ false → IfSome t (λ o. NewsLacks x old latest o)
 taken-lacks t t1 x latest last from tabled old kept lacks from_is tabled_is reach reads =
     if_some t
     (λ o is.
     let l = some_at (λ o. (key : List ℕ) × ExtendingLacks x from last tabled old o key) t1 o (kept ∙ is) lacks in
-    let last_is = some_at (λ o. last ≡ last_log from o) t o is reach ∙ ap (λ n. last_log n o) from_is in
+    let taken = subst (λ k. IsLastTaken old.lag (number old) k o last) from_is (some_at (λ o. IsLastTaken old.lag (number old) from o last) t o is reach) in
     let bs = l.1.0 in
-    let logs = subst (λ k. Replays (max old.mark latest.manifest.replay_after_wal_id) k (number old) [] bs o (Ok l.1.1)) last_is (subst (λ k. Replays k last (number old) [] bs o (Ok l.1.1)) from_is l.1.2) in
-    (l.0, bs, l.1.1, reads, logs, subst (λ n. Lacks x (batches_above n (old.line.batches ++ bs)) l.0) tabled_is l.1.3))
+    let logs = subst (λ k. Replays k last (number old) [] bs o (Ok l.1.1)) from_is l.1.2 in
+    (l.0, bs, l.1.1, reads, last, taken, logs, subst (λ n. Lacks x (batches_above n (old.line.batches ++ bs)) l.0) tabled_is l.1.3))
 
 -- so a poll does, which finds this manifest first
 module _ {t t1 : Option Objects} (x : Option Extractor) (latest : VersionedManifest) (kept : t1 ≡ t) (found : IfSome t (λ o. FindsLatest o (Ok latest))) (lease : Lease) (moment : ℤ) (old : Follower) where
@@ -153,8 +154,8 @@ module _ {t t1 : Option Objects} (x : Option Extractor) (latest : VersionedManif
       let reaches : Reaches old latest = (omega (arith, tabled), omega (arith, tabled, floor)) in
       keep-by {P = λ o. NewsLacks x old latest o} lacks
       (λ o is why.
-      let here = subst (λ n. Lacks x (batches_above n (old.line.batches ++ why.1)) why.0) tabled why.5 in
-      (latest, is, inr (inr (managed, why.3, reaches, (why.0, (why.1, why.2, why.4, here))))))
+      let here = subst (λ n. Lacks x (batches_above n (old.line.batches ++ why.1)) why.0) tabled why.7 in
+      (latest, is, inr (inr (managed, why.3, reaches, why.4, why.5, (why.0, (why.1, why.2, why.6, here))))))
 
   pub renew-keeps : replaces old.view lease moment latest ≡ false → is_due moment lease ≡ true → (held lease' : Option Lease) (t' : Option Objects) →
       WhereModelled (λ o o'. PutsBy {A = Unit {0}} unrefused (renewal old.view latest lease moment) held o (Err errors.InvalidDBState) lease' o') t1 t' → IfSome t (λ o. KeepLacks x lease moment old o)
@@ -172,4 +173,4 @@ keep-lacks t x lease moment old o stored at content_is seen lacks = lacks-by t x
 pub keep-some : (x : Option Extractor) (lease : Lease) (moment : ℤ) (old : Follower) (o : Objects) → KeepLacks x lease moment old o → PlanIs (to_keep old.view lease moment) o (Err refusals.InvalidDBState) ⊎ IsSome x
 keep-some x lease moment old o (latest, is, inl plan) = inl (latest, is, plan)
 keep-some x lease moment old o (latest, is, inr (inl (from, comes, (next, given, gives, taking)))) = inr (taking-some x (changed (PutManifest next.id next.manifest) o) next from taking)
-keep-some x lease moment old o (latest, is, inr (inr news)) = inr (lacks-some x (batches_above latest.manifest.last_l0_seq (old.line.batches ++ news.3.1.0)) news.3.0 news.3.1.3)
+keep-some x lease moment old o (latest, is, inr (inr news)) = inr (lacks-some x (batches_above latest.manifest.last_l0_seq (old.line.batches ++ news.5.1.0)) news.5.0 news.5.1.3)

@@ -1,5 +1,5 @@
 -- A begun poll lasts from call to call, in few steps, and why it ends.
-use Rattle.std.proofs.Common.{◌≡◌, ◌≢◌, ◌∙◌, ℕ, ℤ, suc, ◌+◌, ◌-◌, ◌*◌, ◌<◌, ◌≤◌, ◌⊎◌, ◌&&◌, ◌==◌, max, not, inl, inr, Bool, true, false, if◌then◌else◌, List, [], ◌∷◌, ◌++◌, length, Option, Some, None, Result, Ok, Err, refl, sym, ap, subst, arith}
+use Rattle.std.proofs.Common.{◌≡◌, ◌≢◌, ◌∙◌, ℕ, ℤ, ◌+◌, ◌-◌, ◌*◌, ◌<◌, ◌≤◌, ◌&&◌, ◌||◌, ◌==◌, max, not, inl, inr, Bool, true, false, if◌then◌else◌, List, [], ◌∷◌, ◌++◌, length, Option, Some, None, Result, Ok, Err, refl, sym, ap, subst, arith}
 use Rattle.std.proofs.Math.Nat.{mul-le-mul_left, suc-mul}
 use Rattle.std.proofs.Math.Numerals.{add-one}
 use Rattle.std.proofs.lemmas.Bool.{cases_lt, eq-eqb, eqb-true, leb-true, ltb-true}
@@ -11,10 +11,9 @@ use Rattle.slate_types.specs.declared.batches.Batch.{Batch}
 use Rattle.slate_types.specs.Line.{Line, end}
 use Rattle.slate_store.specs.Checkpoints.{Plan, found, lease_end, new_checkpoint, puts_next, to_end, to_refresh, to_write, with_checkpoints, without_replaced}
 use Rattle.slate_store.specs.Content.{IsSound, content}
-use Rattle.slate_store.specs.Logs.{AreTruncatedAt, AreWhole, HaveGap, HaveNoGap}
+use Rattle.slate_store.specs.Logs.{AreWhole, HaveGap, HaveNoGap}
 use Rattle.slate_store.specs.Objects.{Objects, PutManifest, changed, is_present, last_log, latest_manifest, log_at}
 use Rattle.slate_store.proofs.Entries.{absent}
-use Rattle.slate_store.proofs.LastLog.{at_least}
 use Rattle.slate_store.proofs.Logs.{untruncated, whole-start}
 use Rattle.slate_store.specs.declared.objects.Checkpoint.{Checkpoint}
 use Rattle.slate_store.specs.declared.objects.VersionedManifest.{VersionedManifest}
@@ -24,8 +23,8 @@ use Rattle.slate_errors.specs.declared.errors.SlateError.TheVariants as errors
 use Rattle.slate_replay.specs.Replay.{ReplaysNext}
 use Rattle.slate_replay.specs.declared.replays.Replayed.{Replayed}
 use Rattle.slate_replay.specs.declared.replays.Replayed.TheVariants as replays
-use Rattle.slate_model.specs.Begun.{AsksLast, Begun, Breaks, Ended, Ends, Fails, Goes, Puts, ReadsAgain, ReadsLatest, ReadsLog, Stage, Turn, asked_last, asked_lease, begun_at, committed, decided, emptied, first_of, kept_lease, leads_on, no_step, noted, overtaken_by, put_by, reached_number, read_again, read_log, replayed, replaying, taken, view_of, with_log, with_step}
-use Rattle.slate_model.specs.Follower.{Follower, number, rebuilt}
+use Rattle.slate_model.specs.Begun.{AsksLast, Begun, Breaks, Ended, Ends, Fails, Goes, LooksAt, Puts, ReadsAgain, ReadsLatest, ReadsLog, Stage, Turn, asked_last, asked_lease, begun_at, committed, decided, emptied, first_log, first_of, greatest_number, kept_lease, leads_on, looked_at, no_step, noted, overtaken_by, put_by, reached_number, read_again, read_log, replayed, replaying, taken, view_of, with_log, with_step}
+use Rattle.slate_model.specs.Follower.{Follower, rebuilt}
 use Rattle.slate_model.specs.Known.{IsContent}
 use Rattle.slate_model.specs.declared.answers.PollAnswer.{PollAnswer}
 use Rattle.slate_model.specs.declared.answers.PollAnswer.TheVariants as answers
@@ -40,17 +39,18 @@ use Rattle.slate_model.specs.declared.polls.FirstRead.{FirstRead}
 use Rattle.slate_model.specs.declared.polls.PollHistory.{PollHistory}
 use Rattle.slate_model.proofs.Coming.{planned-other}
 use Rattle.slate_model.proofs.Fronts.{last-there, seen-as, seen-both, seen-log, stored-below}
-use Rattle.slate_model.proofs.Logging.{LogsFollow, all-seen, none-seen, stay-follow, still-seen}
+use Rattle.slate_model.proofs.Logging.{LogsFollow, all-seen, none-seen, stay-follow}
 use Rattle.slate_model.proofs.Maintained.{Maintained}
 use Rattle.slate_model.proofs.Moving.{Follows}
 use Rattle.slate_model.proofs.Putting.{put-maintains, was-put}
 use Rattle.slate_model.proofs.Reduced.{some-same}
 use Rattle.slate_model.proofs.Reopened.{logs-by}
 use Rattle.slate_follow.specs.Following.{FollowsLine, IsReplaying, StandsAt}
-use Rattle.slate_follow.specs.Lasting.{IsEighth, IsFew, IsOfEighth, IsOvertaken, IsSince, TablesGrew, TablesStay, Lasts, LastsAt, LastsOn, LastsSince, OthersAct, TriesEight, WasRead, at_tables, come_to, most_logs, most_steps, steps_since}
-use Rattle.slate_follow.specs.Stepping.{Meets, MeetsAt, StepFails, Steps, log_turn, reads_latest}
+use Rattle.slate_follow.specs.Lasting.{IsEighth, IsFew, IsOfEighth, IsOvertaken, IsSince, TablesGrew, TablesStay, Lasts, LastsAt, LastsOn, LastsSince, OthersAct, TriesEight, WasRead, at_tables, come_to, most_logs, most_readings, most_steps, steps_since}
+use Rattle.slate_follow.specs.Stepping.{LooksTo, Meets, MeetsAt, StepFails, Steps, log_turn, reads_latest}
 use Rattle.slate_follow.proofs.Rebuilt.{if_some}
-use Rattle.slate_follow.proofs.Continued.{later-whole}
+use Rattle.slate_follow.proofs.Lagging.{readings-more, readings-once, readings-twice}
+use Rattle.slate_follow.proofs.Later.{later-whole}
 use Rattle.slate_follow.proofs.Following.{no-gap-rises, same-tables}
 
 -- ---- counts
@@ -58,8 +58,8 @@ one-more-of : (k x : ℕ) → (k + 1) * x ≡ k * x + x
 one-more-of k x = ap (λ n. n * x) (add-one k) ∙ suc-mul k x
 
 -- so many steps, in the try after so many overtaken ones
-abbrev Paced : FirstRead → Begun → ℕ → Type 0
-Paced first b count = b.history.steps ≤ b.overtaken * most_steps first b.history + count
+abbrev Paced : (lag : ℕ) → FirstRead → Begun → ℕ → Type 0
+Paced lag first b count = b.history.steps ≤ b.overtaken * most_steps lag first b.history + count
 
 if-low : (asked : Bool) (n low a c : ℕ) → n ≤ low → low ≤ a → low ≤ c → n ≤ (if asked then a else c)
 if-low true n low a c up first second = omega (arith, up, first)
@@ -91,7 +91,7 @@ few-paced k x n c less paced = let e = one-more-of k x in omega (arith, e, less,
 latest-seen : (o : Objects) (reader : Follower) (l : VersionedManifest) → latest_manifest o ≡ Some l → HasSeen o (at_tables reader l)
 latest-seen o reader l is =
     let line : Line = record { floor = l.manifest.last_l0_seq; batches = [] } in
-    seen-as o (rebuilt reader.mode reader.skips l line l.manifest.replay_after_wal_id) (at_tables reader l) refl (omega arith) (none-seen o l reader.mode reader.skips line is)
+    seen-as o (rebuilt reader.mode reader.skips reader.lag l line l.manifest.replay_after_wal_id) (at_tables reader l) refl (omega arith) (none-seen o l reader.mode reader.skips reader.lag line is)
 
 since-then : (first : FirstRead) (l l' : VersionedManifest) → IsSince first l → IsSince (first_of l) l' → IsSince first l'
 since-then first l l' a b = record {
@@ -123,29 +123,29 @@ module _ (o o' : Objects) (act : OthersAct o o') where
   }
 
   module _ (reader : Follower) (b : Begun) where
-    act-next : (first : FirstRead) (l : VersionedManifest) → latest_manifest o ≡ Some l → IsSince first l → (stage : Stage) → LastsAt stage first o b → LastsAt stage first o' b
-    act-next first l is since (Puts next given replaces) at = at
-    act-next first l is since AsksLast at = at
-    act-next first l is since (ReadsLog last) (low, below, high, there) = (
-      low,
-      below,
-      high,
-      λ untabled none.
-          let next = act.latest l is in
-          let same : next.0 ≡ untabled.0 = some-same next.0 untabled.0 (sym next.1 ∙ untabled.1) in
-          let tabled : (next.0).manifest.last_l0_seq ≡ first.last_l0_seq = ap (λ (x : VersionedManifest). x.manifest.last_l0_seq) same ∙ untabled.2 in
-          let up = (next.2).tabled in
-          let least = since.tabled in
-          let here : l.manifest.last_l0_seq ≡ first.last_l0_seq = omega (arith, up, least, tabled) in
-          let mark : (next.0).manifest.replay_after_wal_id ≡ first.replay_after_wal_id = (next.2).same (tabled ∙ sym here) ∙ since.same here in
-          there (l, is, here) (by (log_at last o) refl mark next.1 none),
-    )
+    -- a log file that is there stays so while no table is put
+    act-there : (first : FirstRead) (l : VersionedManifest) → latest_manifest o ≡ Some l → IsSince first l → (last : ℕ) → first.replay_after_wal_id ≤ b.mark → b.mark < last → (TablesStay first o → log_at last o ≢ None) → TablesStay first o' → log_at last o' ≢ None
+    act-there first l is since last low below there untabled none =
+        let next = act.latest l is in
+        let same : next.0 ≡ untabled.0 = some-same next.0 untabled.0 (sym next.1 ∙ untabled.1) in
+        let tabled : (next.0).manifest.last_l0_seq ≡ first.last_l0_seq = ap (λ (x : VersionedManifest). x.manifest.last_l0_seq) same ∙ untabled.2 in
+        let up = (next.2).tabled in
+        let least = since.tabled in
+        let here : l.manifest.last_l0_seq ≡ first.last_l0_seq = omega (arith, up, least, tabled) in
+        let mark : (next.0).manifest.replay_after_wal_id ≡ first.replay_after_wal_id = (next.2).same (tabled ∙ sym here) ∙ since.same here in
+        there (l, is, here) (by (log_at last o) refl mark next.1 none)
       where
         by : (log : Option (List Batch)) → log_at last o ≡ log → {n : VersionedManifest} → n.manifest.replay_after_wal_id ≡ first.replay_after_wal_id → latest_manifest o' ≡ Some n → log_at last o' ≡ None → log_at last o ≡ None
         by None log mark next none = log
         by (Some bs) log {n} mark next none =
             let within = stored-below l.manifest.replay_after_wal_id last bs o.logs log in
             sym (act.logs l n last is next (omega (arith, mark, low, below)) within) ∙ none
+
+    act-next : (first : FirstRead) (l : VersionedManifest) → latest_manifest o ≡ Some l → IsSince first l → (stage : Stage) → LastsAt reader.lag stage first o b → LastsAt reader.lag stage first o' b
+    act-next first l is since (Puts next given replaces) at = at
+    act-next first l is since AsksLast at = at
+    act-next first l is since (LooksAt id last) (may, low, below, within, high, there) = (may, low, below, within, high, act-there first l is since last low (omega (arith, below, within)) there)
+    act-next first l is since (ReadsLog last) (low, below, high, there) = (low, below, high, act-there first l is since last low below there)
     act-next first l is since ReadsAgain at = at
     act-next first l is since ReadsLatest at = tt
     act-next first l is since Ended at = tt
@@ -198,7 +198,7 @@ module _ (first : FirstRead) (o : Objects) (l0 : VersionedManifest) (there : lat
     seen : HasSeen o (come_to reader b)
     read : (manifest : VersionedManifest) → b.latest ≡ Some manifest → WasRead first o reader manifest
 
-  goes-left : (b : Begun) → Ready b → LastsAt b.stage first o b → Paced first b (steps_since b.stage first b) → Left (Goes b)
+  goes-left : (b : Begun) → Ready b → LastsAt reader.lag b.stage first o b → Paced reader.lag first b (steps_since reader.lag b.stage first b) → Left (Goes b)
   goes-left b r next paced = record {
     latest = (l0, there);
     own = own;
@@ -212,13 +212,13 @@ module _ (first : FirstRead) (o : Objects) (l0 : VersionedManifest) (there : lat
   read-one b l is was manifest at = subst (WasRead first o reader) (some-same l manifest (sym is ∙ at)) was
 
   put-left : (l : VersionedManifest) (lifetime : ℕ) (p : Plan Checkpoint) (replaces : Bool) (b : Begun) → ((next : VersionedManifest) (checkpoint : Checkpoint) → p ≡ Ok (Some next, checkpoint) → IsPlanned l next) →
-      b.latest ≡ Some l → Ready b → Paced first b (if b.asked then 4 + most_logs first b.history else 1) → Left (put_by (leased lifetime p) replaces b)
+      b.latest ≡ Some l → Ready b → Paced reader.lag first b (if b.asked then 4 + most_readings reader.lag first b.history else 1) → Left (put_by (leased lifetime p) replaces b)
   put-left l lifetime (Ok (Some next, checkpoint)) replaces b planned is r paced =
       goes-left (record b { stage = Puts next (lease_of lifetime checkpoint) replaces }) (record { its = r.its; seen = r.seen; read = r.read }) (l, is, planned next checkpoint refl) paced
   put-left l lifetime (Ok (None, checkpoint)) replaces b planned is r paced = tt
   put-left l lifetime (Err refusal) replaces b planned is r paced = tt
 
-  replayed-left : (l : VersionedManifest) (b : Begun) → b.latest ≡ Some l → Ready b → (b.asked ≡ false → Paced first b (4 + most_logs first b.history)) → Left (replayed l b)
+  replayed-left : (l : VersionedManifest) (b : Begun) → b.latest ≡ Some l → Ready b → (b.asked ≡ false → Paced reader.lag first b (4 + most_readings reader.lag first b.history)) → Left (replayed l b)
   replayed-left l b is r paced = by b.lease
     where
       asked : Ready (record b { asked = true })
@@ -244,7 +244,7 @@ module _ (first : FirstRead) (o : Objects) (l0 : VersionedManifest) (there : lat
 
   -- a poll that replays after a manifest that was read, under a view whose tables end where the manifest's do
   replaying-left : (l : VersionedManifest) (b : Begun) → b.latest ≡ Some l → (view_of reader b).manifest.last_l0_seq ≡ l.manifest.last_l0_seq → WasRead first o reader l → Ready b →
-      Paced first b (if b.asked then 5 + most_logs first b.history else 2) → Left (replaying reader l b)
+      Paced reader.lag first b (if b.asked then 5 + most_readings reader.lag first b.history else 2) → Left (replaying reader l b)
   replaying-left l b is same was r paced = by reader.skips (leads_on reader b) refl
     where
       past : first.replay_after_wal_id ≤ l.manifest.replay_after_wal_id
@@ -268,7 +268,7 @@ module _ (first : FirstRead) (o : Objects) (l0 : VersionedManifest) (there : lat
           Left (if skips then replayed l (emptied reader l.manifest.replay_after_wal_id b) else (if leads then Goes (record b { stage = AsksLast; mark = max b.mark l.manifest.replay_after_wal_id }) else Goes (record (emptied reader l.manifest.replay_after_wal_id b) { stage = AsksLast })))
       by true leads on =
           replayed-left l (emptied reader l.manifest.replay_after_wal_id b) is (anew (emptied reader l.manifest.replay_after_wal_id b) refl refl refl (omega arith))
-          (λ unasked. let low = subst (λ x. Paced first b (if x then 5 + most_logs first b.history else 2)) unasked paced in omega (arith, low))
+          (λ unasked. let low = subst (λ x. Paced reader.lag first b (if x then 5 + most_readings reader.lag first b.history else 2)) unasked paced in omega (arith, low))
       by false true on =
           goes-left (record b { stage = AsksLast; mark = max b.mark l.manifest.replay_after_wal_id }) (record {
             its = r.its;
@@ -280,35 +280,35 @@ module _ (first : FirstRead) (o : Objects) (l0 : VersionedManifest) (there : lat
           goes-left next (anew next refl refl refl (omega arith)) past paced
 
   -- it is decided by the latest manifest
-  decided-left : (l : VersionedManifest) (lease : Option Lease) (b : Begun) → b.view ≡ None → WasRead first o reader l → b.history.first ≡ Some first → HasSeen o (come_to reader b) → Paced first b 1 → Left (decided reader l lease b)
+  decided-left : (l : VersionedManifest) (lease : Option Lease) (b : Begun) → b.view ≡ None → WasRead first o reader l → b.history.first ≡ Some first → HasSeen o (come_to reader b) → Paced reader.lag first b 1 → Left (decided reader l lease b)
   decided-left l lease b unviewed was its seen paced = by lease
     where
-      low : (a c : ℕ) → 1 ≤ a → 1 ≤ c → Paced first b (if b.asked then a else c)
+      low : (a c : ℕ) → 1 ≤ a → 1 ≤ c → Paced reader.lag first b (if b.asked then a else c)
       low a c up up' = let more = if-low b.asked 1 1 a c (omega arith) up up' in omega (arith, paced, more)
 
       some : (held : Lease) (x : Bool) → differs reader.view l ≡ x → Left (if x then put_by (leased held.lifetime (to_write (Some held.id) (Some held.lifetime) b.moment l)) true (record b { latest = Some l }) else replaying reader l (record b { latest = Some l }))
       some held true other =
           put-left l held.lifetime (to_write (Some held.id) (Some held.lifetime) b.moment l) true (record b { latest = Some l }) (λ next checkpoint gives. (held.id, held.lifetime, b.moment, checkpoint, inl gives)) refl
-          (record { its = its; seen = seen; read = read-one (record b { latest = Some l }) l refl was }) (low (4 + most_logs first b.history) 1 (omega arith) (omega arith))
+          (record { its = its; seen = seen; read = read-one (record b { latest = Some l }) l refl was }) (low (4 + most_readings reader.lag first b.history) 1 (omega arith) (omega arith))
       some held false same =
           let viewed : (view_of reader b).manifest.last_l0_seq ≡ l.manifest.last_l0_seq = ap (λ v. (unwrap_or v reader.view).manifest.last_l0_seq) unviewed ∙ same-tables reader.view l same in
-          replaying-left l (record b { latest = Some l }) refl viewed was (record { its = its; seen = seen; read = read-one (record b { latest = Some l }) l refl was }) (low (5 + most_logs first b.history) 2 (omega arith) (omega arith))
+          replaying-left l (record b { latest = Some l }) refl viewed was (record { its = its; seen = seen; read = read-one (record b { latest = Some l }) l refl was }) (low (5 + most_readings reader.lag first b.history) 2 (omega arith) (omega arith))
 
       by : (lease : Option Lease) → Left (decided reader l lease b)
       by None =
           replaying-left l (record b { view = Some l; latest = Some l }) refl refl was (record { its = its; seen = seen; read = read-one (record b { view = Some l; latest = Some l }) l refl was })
-          (low (5 + most_logs first b.history) 2 (omega arith) (omega arith))
+          (low (5 + most_readings reader.lag first b.history) 2 (omega arith) (omega arith))
       by (Some held) = some held (differs reader.view l) refl
 
   -- a manifest was put
   committed-left : (next : VersionedManifest) (given : Lease) (replaces : Bool) (b : Begun) → WasRead first o reader next → b.history.first ≡ Some first → HasSeen o (come_to reader b) →
-      Paced first b (if b.asked then 5 + most_logs first b.history else 2) → Left (committed reader next given replaces b)
+      Paced reader.lag first b (if b.asked then 5 + most_readings reader.lag first b.history else 2) → Left (committed reader next given replaces b)
   committed-left next given true b was its seen paced =
       let after = record b { view = Some next; latest = Some next; lease = Some given } in
       replaying-left next after refl refl was (record { its = its; seen = seen; read = read-one after next refl was }) paced
   committed-left next given false b was its seen paced = tt
 
-  overtaken-left : (b : Begun) → b.history.first ≡ Some first → Paced first b (5 + most_logs first b.history) → Left (overtaken_by reader b)
+  overtaken-left : (b : Begun) → b.history.first ≡ Some first → Paced reader.lag first b (5 + most_readings reader.lag first b.history) → Left (overtaken_by reader b)
   overtaken-left b its paced = by (b.overtaken == 7)
     where
       by : (x : Bool) → Left (if x then Fails (errors.TransactionalObjectTimeout 8) else Goes (begun_at b.moment (b.overtaken + 1) b.history reader))
@@ -316,28 +316,81 @@ module _ (first : FirstRead) (o : Objects) (l0 : VersionedManifest) (there : lat
       by false =
           let anew = begun_at b.moment (b.overtaken + 1) b.history reader in
           goes-left anew (record { its = its; seen = seen-as o reader (come_to reader anew) refl (omega arith) own; read = λ manifest at. absurd (cc) }) tt
-          (again-paced b.overtaken (most_steps first b.history) b.history.steps (most_logs first b.history) refl paced)
+          (again-paced b.overtaken (most_steps reader.lag first b.history) b.history.steps (most_readings reader.lag first b.history) refl paced)
 
   -- the last log file was asked for
-  asked-left : (b : Begun) → Ready b → first.replay_after_wal_id ≤ b.mark → Paced first b (if b.asked then 6 + most_logs first b.history else 3) → Left (Goes (asked_last (last_log b.mark o) b))
+  asked-left : (b : Begun) → Ready b → first.replay_after_wal_id ≤ b.mark → Paced reader.lag first b (if b.asked then 6 + most_readings reader.lag first b.history else 3) → Left (Goes (asked_last reader (last_log b.mark o) b))
   asked-left b r past paced = by (nat_lt b.mark (last_log b.mark o)) refl
     where
-      by : (x : Bool) → nat_lt b.mark (last_log b.mark o) ≡ x → Left (Goes (if x then record b { stage = ReadsLog (last_log b.mark o); history = with_log (last_log b.mark o) b.history } else record b { stage = ReadsAgain }))
-      by true on =
-          let after = record b { stage = ReadsLog (last_log b.mark o); history = with_log (last_log b.mark o) b.history } in
-          let below : b.mark < (last_log b.mark o) = ltb-true b.mark (last_log b.mark o) on in
-          let logs : most_logs first b.history ≤ most_logs first (with_log (last_log b.mark o) b.history) = omega arith in
-          let more = if-more b.asked (6 + most_logs first b.history) 3 (6 + most_logs first (with_log (last_log b.mark o) b.history)) 3 0 (omega (arith, logs)) (omega arith) in
-          goes-left after (record { its = r.its; seen = r.seen; read = r.read })
+      last : ℕ
+      last = last_log b.mark o
+
+      grown : PollHistory
+      grown = with_log last b.history
+
+      more : most_readings reader.lag first b.history ≤ most_readings reader.lag first grown
+      more = readings-more reader.lag (most_logs first b.history) (most_logs first grown) (omega arith)
+
+      -- a longer list of log files leaves the count so
+      paced-by : (more_steps : ℕ) → Paced reader.lag first (record b { history = grown }) ((if b.asked then 6 + most_readings reader.lag first grown else 3) + more_steps)
+      paced-by more_steps =
+          let up = more in
+          let base = if-more b.asked (6 + most_readings reader.lag first b.history) 3 (6 + most_readings reader.lag first grown) 3 0 (omega (arith, up)) (omega arith) in
+          paced-grown b.overtaken (most_steps reader.lag first b.history) (most_steps reader.lag first grown) b.history.steps (if b.asked then 6 + most_readings reader.lag first b.history else 3)
+          ((if b.asked then 6 + most_readings reader.lag first grown else 3) + more_steps) (omega (arith, up)) (omega (arith, base)) paced
+
+      first-left : b.mark < last → (x : Bool) → (reader.lag == 0) ≡ x → Left (Goes (record b { stage = (if x then ReadsLog last else LooksAt last last); history = grown }))
+      first-left below true none =
+          goes-left (record b { stage = ReadsLog last; history = grown }) (record { its = r.its; seen = r.seen; read = r.read })
           (past, below, omega arith, λ untabled. last-there b.mark o.logs below)
-          (paced-grown b.overtaken (most_steps first b.history) (most_steps first (with_log (last_log b.mark o) b.history)) b.history.steps (if b.asked then 6 + most_logs first b.history else 3) (steps_since (ReadsLog (last_log b.mark o)) first after)
-          (omega (arith, logs)) (omega (arith, more)) paced)
+          (let low = paced-by ((most_readings reader.lag first grown - most_logs first grown) + (b.mark - first.replay_after_wal_id)) in omega (arith, low))
+      first-left below false some =
+          let may : 0 < reader.lag = elim (cases_lt 0 reader.lag) [ inl more ↦ more | inr least ↦ absurd (let zero : (reader.lag == 0) ≡ true = eq-eqb reader.lag 0 (omega (arith, least)) in cc (zero, some)) ] in
+          goes-left (record b { stage = LooksAt last last; history = grown }) (record { its = r.its; seen = r.seen; read = r.read })
+          (may, past, below, omega arith, omega arith, λ untabled. last-there b.mark o.logs below)
+          (paced-by (last - last))
+
+      by : (x : Bool) → nat_lt b.mark last ≡ x → Left (Goes (if x then record b { stage = first_log reader last; history = grown } else record b { stage = ReadsAgain }))
+      by true on = first-left (ltb-true b.mark last on) (reader.lag == 0) refl
       by false on = goes-left (record b { stage = ReadsAgain }) (record { its = r.its; seen = r.seen; read = r.read }) past paced
+
+  -- a log file was looked at
+  looked-left : (l : VersionedManifest) (id last : ℕ) (batches : List Batch) (b : Begun) → b.latest ≡ Some l → Ready b → 0 < reader.lag → first.replay_after_wal_id ≤ b.mark → b.mark < id → id ≤ last → last ≤ b.history.last_log → (TablesStay first o → log_at last o ≢ None) →
+      Paced reader.lag first b ((if b.asked then 6 + most_readings reader.lag first b.history else 3) + (last - id) + 1) → Left (looked_at reader l id last batches b)
+  looked-left l id last batches b is r may past below within high stays paced = by (nat_lt (reached_number b + reader.lag) newest) (nat_lt (reached_number b) newest || id == b.mark + 1) refl
+    where
+      newest : ℕ
+      newest = greatest_number batches
+
+      twice : most_readings reader.lag first b.history ≡ 2 * most_logs first b.history
+      twice = readings-twice reader.lag (most_logs first b.history) may
+
+      by : (x y : Bool) → (nat_lt (reached_number b) newest || id == b.mark + 1) ≡ y → Left (if x then Goes (record b { stage = ReadsLog last }) else (if y then replayed l b else Goes (record b { stage = LooksAt (id - 1) last })))
+      by true y is_y =
+          let e = twice in
+          goes-left (record b { stage = ReadsLog last }) (record { its = r.its; seen = r.seen; read = r.read }) (past, omega (arith, below, within), high, stays) (omega (arith, e, paced, past, below, within, high))
+      by false true is_y =
+          let e = twice in
+          replayed-left l b is r
+          (λ unasked.
+          let low = subst (λ x. Paced reader.lag first b ((if x then 6 + most_readings reader.lag first b.history else 3) + (last - id) + 1)) unasked paced in
+          omega (arith, e, low, past, below, within, high))
+      by false false is_y =
+          let apart : id ≡ b.mark + 1 → ⊥ = λ same. (let yes = eq-eqb id (b.mark + 1) same in neither (nat_lt (reached_number b) newest) (id == b.mark + 1) is_y yes) in
+          let next : b.mark < id - 1 = elim (cases_lt (b.mark + 1) id) [
+            | inl less ↦ omega (arith, less)
+            | inr over ↦ absurd (apart (omega (arith, over, below)))
+          ] in
+          goes-left (record b { stage = LooksAt (id - 1) last }) (record { its = r.its; seen = r.seen; read = r.read }) (may, past, next, omega (arith, within), high, stays) (omega (arith, paced, below, within))
+        where
+          neither : (x y : Bool) → (x || y) ≡ false → y ≡ true → ⊥
+          neither true y both one = absurd (cc)
+          neither false y both one = cc
 
   -- a log file was read
   read-left : (l : VersionedManifest) (last : ℕ) (fresh batches : List Batch) (b : Begun) → b.latest ≡ Some l → Ready b → first.replay_after_wal_id ≤ b.mark → b.mark < last → last ≤ b.history.last_log → (TablesStay first o → log_at last o ≢ None) →
       log_at (b.mark + 1) o ≡ Some batches → b.floor + length b.fresh ≤ b.floor + length fresh → All (λ x. x.number ≤ b.floor + length fresh) batches →
-      Paced first b (if b.asked then 6 + most_logs first b.history + (b.mark - first.replay_after_wal_id) + 1 else 3 + (b.mark - first.replay_after_wal_id) + 1) → Left (read_log l last fresh b)
+      Paced reader.lag first b ((if b.asked then 6 + most_readings reader.lag first b.history else 3) + (most_readings reader.lag first b.history - most_logs first b.history) + (b.mark - first.replay_after_wal_id) + 1) → Left (read_log l last fresh b)
   read-left l last fresh batches b is r past below high stays stored up within paced = by (b.mark + 1 == last) refl
     where
       ready : (stage : Stage) → Ready (record b { stage = stage; fresh = fresh; mark = b.mark + 1 })
@@ -352,8 +405,9 @@ module _ (first : FirstRead) (o : Objects) (l0 : VersionedManifest) (there : lat
       by true on =
           replayed-left l (record b { fresh = fresh; mark = b.mark + 1 }) is (ready b.stage)
           (λ unasked.
-          let low = subst (λ x. Paced first b (if x then 6 + most_logs first b.history + (b.mark - first.replay_after_wal_id) + 1 else 3 + (b.mark - first.replay_after_wal_id) + 1)) unasked paced in
-          omega (arith, low, below, high, past))
+          let low = subst (λ x. Paced reader.lag first b ((if x then 6 + most_readings reader.lag first b.history else 3) + (most_readings reader.lag first b.history - most_logs first b.history) + (b.mark - first.replay_after_wal_id) + 1)) unasked paced in
+          let least = readings-once reader.lag (most_logs first b.history) in
+          omega (arith, low, least, below, high, past))
       by false on =
           let after = record b { fresh = fresh; mark = b.mark + 1; stage = ReadsLog last } in
           let apart : b.mark + 1 ≡ last → ⊥ = λ same. (let yes = eq-eqb (b.mark + 1) last same in absurd (cc (yes, on))) in
@@ -361,22 +415,17 @@ module _ (first : FirstRead) (o : Objects) (l0 : VersionedManifest) (there : lat
             | inl less ↦ less
             | inr over ↦ absurd (apart (omega (arith, over, below)))
           ] in
-          goes-left after (ready (ReadsLog last)) (omega (arith, past), next, high, stays) (paced-read b.asked paced)
-        where
-          paced-read : (asked : Bool) → Paced first b (if asked then 6 + most_logs first b.history + (b.mark - first.replay_after_wal_id) + 1 else 3 + (b.mark - first.replay_after_wal_id) + 1) →
-              Paced first b ((if asked then 6 + most_logs first b.history else 3) + (b.mark + 1 - first.replay_after_wal_id))
-          paced-read true low = omega (arith, low, past)
-          paced-read false low = omega (arith, low, past)
+          goes-left after (ready (ReadsLog last)) (omega (arith, past), next, high, stays) (omega (arith, paced, past))
 
   -- the latest manifest was read again
-  again-left : (l : VersionedManifest) (b : Begun) → WasRead first o reader l → b.history.first ≡ Some first → HasSeen o (come_to reader b) → Paced first b (if b.asked then 7 + most_logs first b.history else 4) → Left (read_again l b)
+  again-left : (l : VersionedManifest) (b : Begun) → WasRead first o reader l → b.history.first ≡ Some first → HasSeen o (come_to reader b) → Paced reader.lag first b (if b.asked then 7 + most_readings reader.lag first b.history else 4) → Left (read_again l b)
   again-left l b was its seen paced = by (nat_lt b.mark l.manifest.replay_after_wal_id)
     where
       by : (x : Bool) → Left (if x then Breaks (record b { stage = Ended }) else replayed l (record b { latest = Some l }))
       by true = tt
       by false =
           replayed-left l (record b { latest = Some l }) refl (record { its = its; seen = seen; read = read-one (record b { latest = Some l }) l refl was })
-          (λ unasked. let low = subst (λ x. Paced first b (if x then 7 + most_logs first b.history else 4)) unasked paced in omega (arith, low))
+          (λ unasked. let low = subst (λ x. Paced reader.lag first b (if x then 7 + most_readings reader.lag first b.history else 4)) unasked paced in omega (arith, low))
 
 -- ---- turns that neither end at a gap nor for the tries
 abbrev Plain : Turn → Type 0
@@ -445,6 +494,17 @@ read-plain l last fresh b = by (b.mark + 1 == last)
     by true = replayed-plain l (record b { fresh = fresh; mark = b.mark + 1 })
     by false = tt
 
+looked-plain : (reader : Follower) (l : VersionedManifest) (id last : ℕ) (batches : List Batch) (b : Begun) → Plain (looked_at reader l id last batches b)
+looked-plain reader l id last batches b = by (nat_lt (reached_number b + reader.lag) newest) (nat_lt (reached_number b) newest || id == b.mark + 1)
+  where
+    newest : ℕ
+    newest = greatest_number batches
+
+    by : (x y : Bool) → Plain (if x then Goes (record b { stage = ReadsLog last }) else (if y then replayed l b else Goes (record b { stage = LooksAt (id - 1) last })))
+    by true y = tt
+    by false true = replayed-plain l b
+    by false false = tt
+
 log-untimed : (f : Replayed) (l : VersionedManifest) (last : ℕ) (fresh : List Batch) (b : Begun) (tries : ℕ) → log_turn f l last fresh b ≡ Fails (errors.TransactionalObjectTimeout tries) → ⊥
 log-untimed replays.Whole l last fresh b tries is = subst Plain is (read-plain l last fresh b)
 log-untimed (replays.Truncated id) l last fresh b tries is = cc
@@ -456,8 +516,8 @@ again-untimed l b tries = by (nat_lt b.mark l.manifest.replay_after_wal_id)
     by true is = cc
     by false is = subst Plain is (replayed-plain l (record b { latest = Some l }))
 
-asked-goes-on : (last : ℕ) (b : Begun) (turn : Turn) → turn ≡ Goes (asked_last last b) → Plain turn
-asked-goes-on last b turn is = subst Plain (sym is) tt
+asked-goes-on : (reader : Follower) (last : ℕ) (b : Begun) (turn : Turn) → turn ≡ Goes (asked_last reader last b) → Plain turn
+asked-goes-on reader last b turn is = subst Plain (sym is) tt
 
 -- ---- what commands do, others act so
 -- those after which the objects follow
@@ -529,19 +589,26 @@ module _ (o : Objects) (sound : IsSound o) (reader : Follower) (b : Begun) (f : 
   one = omega arith
 
   -- the steps of before are few
-  pub few-steps : IsFew b
+  pub few-steps : IsFew reader.lag b
   few-steps = by b.history.first s.since
     where
       by : (first : Option FirstRead) → MatchOption first ((b.stage ≡ ReadsLatest) × (b.history.steps ≡ 0)) (λ first. LastsSince first o reader b) →
-          MatchOption first (b.history.steps ≡ 0) (λ first. b.history.steps < (b.overtaken + 1) * most_steps first b.history)
+          MatchOption first (b.history.steps ≡ 0) (λ first. b.history.steps < (b.overtaken + 1) * most_steps reader.lag first b.history)
       by None start = start.1
-      by (Some first) since = few-paced b.overtaken (most_steps first b.history) b.history.steps (steps_since b.stage first b) (at b.stage since.next) since.paced
+      by (Some first) since = few-paced b.overtaken (most_steps reader.lag first b.history) b.history.steps (steps_since reader.lag b.stage first b) (at b.stage since.next) since.paced
         where
-          at : (stage : Stage) → LastsAt stage first o b → steps_since stage first b < most_steps first b.history
-          at (Puts next given replaces) x = let low = if-within b.asked (4 + most_logs first b.history) 1 (4 + most_logs first b.history) (omega arith) (omega arith) in omega (arith, low)
-          at AsksLast x = let low = if-within b.asked (5 + most_logs first b.history) 2 (5 + most_logs first b.history) (omega arith) (omega arith) in omega (arith, low)
-          at (ReadsLog last) (past, below, high, stays) = let low = if-within b.asked (6 + most_logs first b.history) 3 (6 + most_logs first b.history) (omega arith) (omega arith) in omega (arith, low, past, below, high)
-          at ReadsAgain x = let low = if-within b.asked (6 + most_logs first b.history) 3 (6 + most_logs first b.history) (omega arith) (omega arith) in omega (arith, low)
+          at : (stage : Stage) → LastsAt reader.lag stage first o b → steps_since reader.lag stage first b < most_steps reader.lag first b.history
+          at (Puts next given replaces) x = let low = if-within b.asked (4 + most_readings reader.lag first b.history) 1 (4 + most_readings reader.lag first b.history) (omega arith) (omega arith) in omega (arith, low)
+          at AsksLast x = let low = if-within b.asked (5 + most_readings reader.lag first b.history) 2 (5 + most_readings reader.lag first b.history) (omega arith) (omega arith) in omega (arith, low)
+          at (LooksAt id last) (may, past, below, within, high, stays) =
+              let low = if-within b.asked (6 + most_readings reader.lag first b.history) 3 (6 + most_readings reader.lag first b.history) (omega arith) (omega arith) in
+              let least = readings-once reader.lag (most_logs first b.history) in
+              omega (arith, low, least, past, below, within, high)
+          at (ReadsLog last) (past, below, high, stays) =
+              let low = if-within b.asked (6 + most_readings reader.lag first b.history) 3 (6 + most_readings reader.lag first b.history) (omega arith) (omega arith) in
+              let least = readings-once reader.lag (most_logs first b.history) in
+              omega (arith, low, least, past, below, high)
+          at ReadsAgain x = let low = if-within b.asked (6 + most_readings reader.lag first b.history) 3 (6 + most_readings reader.lag first b.history) (omega arith) (omega arith) in omega (arith, low)
           at ReadsLatest x = omega arith
           at Ended x = omega arith
 
@@ -550,11 +617,11 @@ module _ (o : Objects) (sound : IsSound o) (reader : Follower) (b : Begun) (f : 
     lasts-since : LastsSince first o reader b
     lasts-since = subst (λ (x : Option FirstRead). MatchOption x ((b.stage ≡ ReadsLatest) × (b.history.steps ≡ 0)) (λ first. LastsSince first o reader b)) its s.since
 
-    at-stage : (stage : Stage) → b.stage ≡ stage → LastsAt stage first o b
-    at-stage stage is = subst (λ x. LastsAt x first o b) is lasts-since.next
+    at-stage : (stage : Stage) → b.stage ≡ stage → LastsAt reader.lag stage first o b
+    at-stage stage is = subst (λ x. LastsAt reader.lag x first o b) is lasts-since.next
 
-    paced-at : (stage : Stage) → b.stage ≡ stage → Paced first b (steps_since stage first b)
-    paced-at stage is = subst (λ x. Paced first b (steps_since x first b)) is lasts-since.paced
+    paced-at : (stage : Stage) → b.stage ≡ stage → Paced reader.lag first b (steps_since reader.lag stage first b)
+    paced-at stage is = subst (λ x. Paced reader.lag first b (steps_since reader.lag x first b)) is lasts-since.paced
 
     latest-read : (l : VersionedManifest) → latest_manifest o ≡ Some l → WasRead first o reader l
     latest-read l is = ((l, is, omega arith, λ same. refl), lasts-since.since l is, latest-seen o reader l is)
@@ -569,8 +636,8 @@ module _ (o : Objects) (sound : IsSound o) (reader : Follower) (b : Begun) (f : 
     ready = record { its = its; seen = s.seen; read = lasts-since.read }
 
     -- one step more
-    paced-one : (c c' : ℕ) → c + 1 ≤ c' → Paced first b c → Paced first (taken b) c'
-    paced-one c c' more paced = step-paced b.history.steps counted (b.overtaken * most_steps first b.history) c c' one more paced
+    paced-one : (c c' : ℕ) → c + 1 ≤ c' → Paced reader.lag first b c → Paced reader.lag first (taken b) c'
+    paced-one c c' more paced = step-paced b.history.steps counted (b.overtaken * most_steps reader.lag first b.history) c c' one more paced
 
     meets-left : (stage : Stage) (turn : Turn) (o' : Objects) → b.stage ≡ stage → MeetsAt stage reader (taken b) o turn o' → ((next : VersionedManifest) (given : Lease) (replaces : Bool) → stage ≡ Puts next given replaces → ⊥) → LeftBy turn
     meets-left ReadsLatest turn o' at (l, is, turn_is, same) other =
@@ -582,34 +649,37 @@ module _ (o : Objects) (sound : IsSound o) (reader : Follower) (b : Begun) (f : 
     meets-left AsksLast turn o' at (turn_is, same) other =
         subst LeftBy (sym turn_is)
         (asked-left first o l0 (s.latest).1 reader s.own lasts-since.since (taken b) ready (at-stage AsksLast at)
-        (paced-one (if b.asked then 5 + most_logs first b.history else 2) (if b.asked then 6 + most_logs first b.history else 3) (if-more b.asked (5 + most_logs first b.history) 2 (6 + most_logs first b.history) 3 1 (omega arith) (omega arith)) (paced-at AsksLast at)))
+        (paced-one (if b.asked then 5 + most_readings reader.lag first b.history else 2) (if b.asked then 6 + most_readings reader.lag first b.history else 3) (if-more b.asked (5 + most_readings reader.lag first b.history) 2 (6 + most_readings reader.lag first b.history) 3 1 (omega arith) (omega arith)) (paced-at AsksLast at)))
+    meets-left (LooksAt id last) turn o' at (l, is, turn_is, same) other = by (log_at id o) turn_is
+      where
+        by : (log : Option (List Batch)) → LooksTo reader l id last (taken b) log turn → LeftBy turn
+        by None turn_is = subst LeftBy (sym turn_is) tt
+        by (Some batches) turn_is =
+            let x = at-stage (LooksAt id last) at in
+            subst LeftBy (sym turn_is)
+            (looked-left first o l0 (s.latest).1 reader s.own lasts-since.since l id last batches (taken b) is ready x.0 x.1 x.2 x.3 x.4 x.5 (paced-one (steps_since reader.lag (LooksAt id last) first b) _ (omega arith) (paced-at (LooksAt id last) at)))
     meets-left (ReadsLog last) turn o' at (l, fresh, replays.Truncated id, is, n, turn_is, same) other = subst LeftBy (sym turn_is) tt
     meets-left (ReadsLog last) turn o' at (l, fresh, replays.Whole, is, n, turn_is, same) other =
         subst LeftBy (sym turn_is) (by (log_at (b.mark + 1) o) refl n.ends)
       where
-        paced-log : (asked : Bool) → Paced first b ((if asked then 6 + most_logs first b.history else 3) + (b.mark - first.replay_after_wal_id)) →
-            Paced first (taken b) (if asked then 6 + most_logs first b.history + (b.mark - first.replay_after_wal_id) + 1 else 3 + (b.mark - first.replay_after_wal_id) + 1)
-        paced-log true low = paced-one (6 + most_logs first b.history + (b.mark - first.replay_after_wal_id)) _ (omega arith) low
-        paced-log false low = paced-one (3 + (b.mark - first.replay_after_wal_id)) _ (omega arith) low
-
         by : (log : Option (List Batch)) → log_at (b.mark + 1) o ≡ log → IsSomeAnd log (HaveNoGap (b.floor + length b.fresh) (b.floor + length fresh)) → LeftBy (read_log l last fresh (taken b))
         by None none gap = absurd gap
         by (Some batches) stored gap =
             let x = at-stage (ReadsLog last) at in
             read-left first o l0 (s.latest).1 reader s.own lasts-since.since l last fresh batches (taken b) is ready x.0 x.1 x.2 x.3 stored (no-gap-rises _ _ batches gap) (gap-within _ _ batches gap)
-            (paced-log b.asked (paced-at (ReadsLog last) at))
+            (paced-one (steps_since reader.lag (ReadsLog last) first b) _ (omega arith) (paced-at (ReadsLog last) at))
     meets-left ReadsAgain turn o' at (l, is, turn_is, same) other =
         subst LeftBy (sym turn_is)
         (again-left first o l0 (s.latest).1 reader s.own lasts-since.since l (taken b) (latest-read l is) its s.seen
-        (paced-one (if b.asked then 6 + most_logs first b.history else 3) (if b.asked then 7 + most_logs first b.history else 4) (if-more b.asked (6 + most_logs first b.history) 3 (7 + most_logs first b.history) 4 1 (omega arith) (omega arith)) (paced-at ReadsAgain at)))
+        (paced-one (if b.asked then 6 + most_readings reader.lag first b.history else 3) (if b.asked then 7 + most_readings reader.lag first b.history else 4) (if-more b.asked (6 + most_readings reader.lag first b.history) 3 (7 + most_readings reader.lag first b.history) 4 1 (omega arith) (omega arith)) (paced-at ReadsAgain at)))
     meets-left Ended turn o' at m other = absurd m
 
     -- a put leads from the objects that it leaves
     put-left-by : (next : VersionedManifest) (given : Lease) (replaces : Bool) (turn : Turn) (after : Begun) (o' : Objects) → b.stage ≡ Puts next given replaces → MeetsAt (Puts next given replaces) reader (taken b) o turn o' → turn ≡ Goes after → Lasts o' reader after
     put-left-by next given replaces turn after o' at (inr (there, turn_is, same)) goes =
         let left = overtaken-left first o l0 (s.latest).1 reader s.own lasts-since.since (taken b) its
-        (paced-one (if b.asked then 4 + most_logs first b.history else 1) (5 + most_logs first b.history)
-        (let low = if-within b.asked (4 + most_logs first b.history) 1 (4 + most_logs first b.history) (omega arith) (omega arith) in omega (arith, low)) (paced-at (Puts next given replaces) at)) in
+        (paced-one (if b.asked then 4 + most_readings reader.lag first b.history else 1) (5 + most_readings reader.lag first b.history)
+        (let low = if-within b.asked (4 + most_readings reader.lag first b.history) 1 (4 + most_readings reader.lag first b.history) (omega arith) (omega arith) in omega (arith, low)) (paced-at (Puts next given replaces) at)) in
         subst (λ x. Lasts x reader after) (sym same) (subst LeftBy (sym turn_is ∙ goes) left)
     put-left-by next given replaces turn after o' at (inl (free, turn_is, put)) goes =
         let staged = at-stage (Puts next given replaces) at in
@@ -629,18 +699,26 @@ module _ (o : Objects) (sound : IsSound o) (reader : Follower) (b : Begun) (f : 
           subst (λ v. HasSeen (put_o o sound last_one next was planned free) (at_tables reader v)) (sym other.1) (seen-as (put_o o sound last_one next was planned free) (at_tables reader last_one) (at_tables reader (with_checkpoints other.0 last_one)) refl (omega arith) read.2),
         ) in
         let left = committed-left first (put_o o sound last_one next was planned free) l' (s'.latest).1 reader s'.own since'.since next given replaces (taken b) its_read its s'.seen
-        (paced-one (if b.asked then 4 + most_logs first b.history else 1) (if b.asked then 5 + most_logs first b.history else 2) (if-more b.asked (4 + most_logs first b.history) 1 (5 + most_logs first b.history) 2 1 (omega arith) (omega arith)) (paced-at (Puts next given replaces) at)) in
+        (paced-one (if b.asked then 4 + most_readings reader.lag first b.history else 1) (if b.asked then 5 + most_readings reader.lag first b.history else 2) (if-more b.asked (4 + most_readings reader.lag first b.history) 1 (5 + most_readings reader.lag first b.history) 2 1 (omega arith) (omega arith)) (paced-at (Puts next given replaces) at)) in
         subst (λ x. Lasts x reader after) (sym put) (subst (Left first (put_o o sound last_one next was planned free) l' (s'.latest).1 reader s'.own since'.since) (sym turn_is ∙ goes) left)
 
     goes-since : (stage : Stage) (after : Begun) (o' : Objects) → b.stage ≡ stage → MeetsAt stage reader (taken b) o (Goes after) o' → Lasts o' reader after
     goes-since (Puts next given replaces) after o' at m = put-left-by next given replaces (Goes after) after o' at m refl
     goes-since ReadsLatest after o' at m = subst (λ x. Lasts x reader after) (sym m.3) (meets-left ReadsLatest (Goes after) o' at m (λ next given replaces no. absurd (cc)))
     goes-since AsksLast after o' at m = subst (λ x. Lasts x reader after) (sym m.1) (meets-left AsksLast (Goes after) o' at m (λ next given replaces no. absurd (cc)))
+    goes-since (LooksAt id last) after o' at m = subst (λ x. Lasts x reader after) (sym m.3) (meets-left (LooksAt id last) (Goes after) o' at m (λ next given replaces no. absurd (cc)))
     goes-since (ReadsLog last) after o' at m = subst (λ x. Lasts x reader after) (sym m.6) (meets-left (ReadsLog last) (Goes after) o' at m (λ next given replaces no. absurd (cc)))
     goes-since ReadsAgain after o' at m = subst (λ x. Lasts x reader after) (sym m.3) (meets-left ReadsAgain (Goes after) o' at m (λ next given replaces no. absurd (cc)))
     goes-since Ended after o' at m = absurd m
 
     -- ---- why it ends at a gap
+    -- a log file that is there is none after the last one
+    within-last : (last : ℕ) (l : VersionedManifest) → latest_manifest o ≡ Some l → b.mark < last → log_at last o ≢ None → last ≤ last_log l.manifest.replay_after_wal_id o
+    within-last last l is below stays = elim (cases_lt (last_log l.manifest.replay_after_wal_id o) last) [
+      | inl above ↦ absurd (stays (absent last l.manifest.replay_after_wal_id o.logs above))
+      | inr within ↦ within
+    ]
+
     tabled-or-not : (l : VersionedManifest) → latest_manifest o ≡ Some l → (l.manifest.last_l0_seq ≡ first.last_l0_seq → ⊥) → TablesGrew first o
     tabled-or-not l is changed_it =
         let low = (lasts-since.since l is).tabled in
@@ -681,22 +759,27 @@ module _ (o : Objects) (sound : IsSound o) (reader : Follower) (b : Begun) (f : 
         cut-of None same = ap (λ (xs : List Batch). b.floor + length xs) same
         cut-of (Some bs) gap = gap
 
-        within-last : (last : ℕ) (l : VersionedManifest) → latest_manifest o ≡ Some l → b.mark < last → log_at last o ≢ None → last ≤ last_log l.manifest.replay_after_wal_id o
-        within-last last l is below stays = elim (cases_lt (last_log l.manifest.replay_after_wal_id o) last) [
-          | inl above ↦ absurd (stays (absent last l.manifest.replay_after_wal_id o.logs above))
-          | inr within ↦ within
-        ]
-
         -- none of them has a batch past the content
         by-log : (log : Option (List Batch)) → log_at (b.mark + 1) o ≡ log → (l : VersionedManifest) → latest_manifest o ≡ Some l → l.manifest.replay_after_wal_id ≡ first.replay_after_wal_id → first.replay_after_wal_id ≤ b.mark → b.mark < last → last ≤ last_log l.manifest.replay_after_wal_id o → end (content o) < reached_number b →
             MatchOption log (fresh ≡ b.fresh) (HaveGap (b.floor + length b.fresh) (b.floor + length fresh)) → ⊥
         by-log None none l is mark past below high beyond same = ((logs-by o l sound is).whole).stored (b.mark + 1) (omega (arith, mark, past)) (omega (arith, below, high)) none
         by-log (Some bs) some l is mark past below high beyond gap =
-            let low = (all-seen o l sound is reader.mode reader.skips).logs l (b.mark + 1) bs is (omega (arith, mark, past)) (omega (arith, below, high)) some in
+            let low = (all-seen o l sound is reader.mode reader.skips reader.lag).logs l (b.mark + 1) bs is (omega (arith, mark, past)) (omega (arith, below, high)) some in
             let up = no-gap-rises _ _ gap.front gap.no_gap in
             let one_of = All-head (λ (x : Batch). x.number ≤ end (content o)) gap.batch gap.rest (rest-all (λ (x : Batch). x.number ≤ end (content o)) gap.front (gap.batch ∷ gap.rest) (subst (All (λ (x : Batch). x.number ≤ end (content o))) gap.parts low)) in
             let over = gap.past in
             absurd (omega (arith, up, one_of, over, beyond))
+
+    -- one that is to be looked at is there while no table was put
+    no-look : (id top : ℕ) → l0.manifest.last_l0_seq ≡ first.last_l0_seq → b.stage ≡ LooksAt id top → log_at id o ≡ None → ⊥
+    no-look id top here at none =
+        let x = at-stage (LooksAt id top) at in
+        let past = x.1 in
+        let below = x.2 in
+        let within = x.3 in
+        let mark : l0.manifest.replay_after_wal_id ≡ first.replay_after_wal_id = (lasts-since.since l0 (s.latest).1).same here in
+        let high = within-last top l0 (s.latest).1 (omega (arith, below, within)) (x.5 (l0, (s.latest).1, here)) in
+        ((logs-by o l0 sound (s.latest).1).whole).stored id (omega (arith, mark, past, below)) (omega (arith, within, high)) none
 
     breaks-since : (stage : Stage) (last : Begun) (o' : Objects) → b.stage ≡ stage → MeetsAt stage reader (taken b) o (Breaks last) o' → TablesGrew first o
     breaks-since ReadsLatest last o' at (l, is, turn_is, same) = absurd (subst Plain (sym turn_is) (decided-plain reader l b.lease (noted l (taken b))))
@@ -707,6 +790,11 @@ module _ (o : Objects) (sound : IsSound o) (reader : Follower) (b : Begun) (f : 
         by true is = cc
         by false is = cc
     breaks-since AsksLast last o' at (turn_is, same) = absurd (cc)
+    breaks-since (LooksAt id top) last o' at (read, held, turn_is, same) = by (log_at id o) refl turn_is
+      where
+        by : (log : Option (List Batch)) → log_at id o ≡ log → LooksTo reader read id top (taken b) log (Breaks last) → TablesGrew first o
+        by (Some batches) stored turn_is = absurd (subst Plain (sym turn_is) (looked-plain reader read id top batches (taken b)))
+        by None none turn_is = tabled-or-not l0 (s.latest).1 (λ here. no-look id top here at none)
     breaks-since (ReadsLog top) last o' at (read, fresh, replays.Whole, held, n, turn_is, same) = absurd (subst Plain (sym turn_is) (read-plain read top fresh (taken b)))
     breaks-since (ReadsLog top) last o' at (read, fresh, (replays.Truncated id), held, n, turn_is, same) = tabled-or-not l0 (s.latest).1 (λ here. no-cut l0 read top fresh id (s.latest).1 held at here n)
     breaks-since ReadsAgain last o' at (l, is_l, turn_is, same) = tabled-or-not l is_l (λ here. by (nat_lt b.mark l.manifest.replay_after_wal_id) refl turn_is here)
@@ -766,6 +854,11 @@ timeout-eighth o o' reader b tries (Puts next given replaces) (inr (there, turn_
     by true seven is = eqb-true b.overtaken 7 seven
     by false other is = absurd (cc)
 timeout-eighth o o' reader b tries AsksLast (turn_is, same) = absurd (cc)
+timeout-eighth o o' reader b tries (LooksAt id last) (l, is, turn_is, same) = absurd (by (log_at id o) turn_is)
+  where
+    by : (log : Option (List Batch)) → LooksTo reader l id last (taken b) log (Fails (errors.TransactionalObjectTimeout tries)) → ⊥
+    by None turn_is = cc
+    by (Some batches) turn_is = subst Plain (sym turn_is) (looked-plain reader l id last batches (taken b))
 timeout-eighth o o' reader b tries (ReadsLog last) (read, fresh, found_log, held, n, turn_is, same) = absurd (log-untimed found_log read last fresh (taken b) tries (sym turn_is))
 timeout-eighth o o' reader b tries ReadsAgain (l, is, turn_is, same) = absurd (again-untimed l (taken b) tries (sym turn_is))
 timeout-eighth o o' reader b tries Ended m = absurd m
@@ -776,6 +869,7 @@ eighth-turn o o' reader b turn (Puts next given replaces) there seven (inr (pres
     turn_is ∙ ap (λ x. if x then Fails (errors.TransactionalObjectTimeout 8) else Goes (begun_at b.moment (b.overtaken + 1) (with_step b.history) reader)) (eq-eqb b.overtaken 7 seven)
 eighth-turn o o' reader b turn ReadsLatest there seven m = absurd there
 eighth-turn o o' reader b turn AsksLast there seven m = absurd there
+eighth-turn o o' reader b turn (LooksAt id last) there seven m = absurd there
 eighth-turn o o' reader b turn (ReadsLog last) there seven m = absurd there
 eighth-turn o o' reader b turn ReadsAgain there seven m = absurd there
 eighth-turn o o' reader b turn Ended there seven m = absurd there
@@ -813,7 +907,7 @@ tries-eight o o' reader reader' b b' result steps = record { only = λ tries is.
 
 -- over a store
 pub lasts-where : (line : Line) (reader reader' : Follower) (b b' : Begun) (result : Result (Option PollAnswer) SlateError) {s s' : Option Objects} → WhereModelled (λ o o'. Steps reader b result o reader' b' o') s s' → IsContent s line →
-    ((o : Objects) → s ≡ Some o → FollowsLine o line reader b × Lasts o reader b) → IfSome s (λ o. IsFew b × LastsOn o s' b result reader' b')
+    ((o : Objects) → s ≡ Some o → FollowsLine o line reader b × Lasts o reader b) → IfSome s (λ o. IsFew reader.lag b × LastsOn o s' b result reader' b')
 lasts-where line reader reader' b b' result {s} {s'} w is held = if_some s (λ o at.
     let t = w.some o at in
     let same : is.0 ≡ o = some-same is.0 o (sym is.1 ∙ at) in
@@ -823,7 +917,7 @@ lasts-where line reader reader' b b' result {s} {s'} w is held = if_some s (λ o
     let f = subst (λ (l : Line). FollowsLine o l reader b) line_is h.0 in
     (few-steps o sound reader b f h.1, subst (λ x. LastsOn o x b result reader' b') (sym t.1) (lasts-on o t.0 reader reader' b b' result sound f h.1 t.2)))
 
-pub few-where : (line : Line) (reader : Follower) (b : Begun) (o : Objects) {s : Option Objects} → IsContent s line → s ≡ Some o → ((o : Objects) → s ≡ Some o → FollowsLine o line reader b × Lasts o reader b) → IsFew b
+pub few-where : (line : Line) (reader : Follower) (b : Begun) (o : Objects) {s : Option Objects} → IsContent s line → s ≡ Some o → ((o : Objects) → s ≡ Some o → FollowsLine o line reader b × Lasts o reader b) → IsFew reader.lag b
 few-where line reader b o is at held =
     let same : is.0 ≡ o = some-same is.0 o (sym is.1 ∙ at) in
     let h = held o at in

@@ -1,4 +1,5 @@
 pub mod Above
+pub mod Anew
 pub mod Answering
 pub mod Closing
 pub mod Continued
@@ -11,9 +12,12 @@ pub mod Informed
 pub mod Joining
 pub mod Keeping
 pub mod Lacking
+pub mod Lagging
+pub mod Later
 pub mod Leased
 pub mod Planned
 pub mod Rebuilt
+pub mod Refused
 pub mod Refusing
 pub mod Renewing
 pub mod Segmented

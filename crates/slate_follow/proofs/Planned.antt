@@ -1,5 +1,5 @@
 -- What a call with a plan for a lease puts, from what it reads and puts.
-use Rattle.std.proofs.Common.{◌≡◌, ℕ, zero, suc, inl, inr, List, [], ◌∷◌, length, Option, Some, None, true, false, cond, Result, Ok, Err, refl, sym, ap, subst, ◌∙◌, arith}
+use Rattle.std.proofs.Common.{◌≡◌, ◌+◌, ◌*◌, ◌<◌, ◌≤◌, ℕ, zero, suc, inl, inr, List, [], ◌∷◌, length, Option, Some, None, true, false, cond, Result, Ok, Err, refl, sym, ap, subst, ◌∙◌, arith}
 use Rattle.std.proofs.Math.Logic.{⊎_map}
 use Rattle.std.specs.Option.{IfSome}
 use Rattle.std.specs.Prelude.{ℤ, ◌⊎◌}
@@ -9,20 +9,23 @@ use Rattle.slate_types.proofs.Modelled.{modelled_as}
 use Rattle.slate_types.specs.declared.batches.Batch.{Batch}
 use Rattle.slate_types.specs.declared.store_errors.StoreFault.TheVariants.{Unavailable}
 use Rattle.slate_store.specs.declared.objects.VersionedManifest.{VersionedManifest}
+use Rattle.slate_store.specs.declared.refusals.StoreRefusal.{StoreRefusal}
 use Rattle.slate_store.specs.declared.refusals.StoreRefusal.TheVariants as refusals
 use Rattle.slate_store.specs.Checkpoints.{Plan, to_write}
 use Rattle.slate_store.specs.Objects.{Change, Objects, PutManifest, changed, is_present, latest_manifest}
 use Rattle.slate_store.specs.Refusals.{checkpoint_changes, planned, planned_after}
 use Rattle.slate_errors.specs.declared.errors.SlateError.{SlateError}
 use Rattle.slate_errors.specs.declared.errors.SlateError.TheVariants as errors
+use Rattle.slate_model.proofs.Reduced.{some-same}
 use Rattle.slate_model.specs.Changes.{PartMade, after_part}
 use Rattle.slate_model.specs.Follower.{Follower}
 use Rattle.slate_model.specs.Lease.{leased, to_take}
 use Rattle.slate_model.specs.Managed.{KeepsOrNot, PlanCause, PutsPlanned, TakeRefusal}
-use Rattle.slate_model.specs.Followed.{follow_refusal}
+use Rattle.slate_model.specs.Followed.{RefusesLatest, follow_refusal}
 use Rattle.slate_model.specs.Segments.{Extractor}
 use Rattle.slate_model.specs.Stores.{Stands}
 use Rattle.slate_model.specs.declared.leases.Lease.{Lease}
+use Rattle.slate_follow.specs.Answering.{IsOfLatest}
 use Rattle.slate_follow.specs.Keeping.{CauseBy, FindsLatest, GivesLease, IsOfPolling, MayLack, MayMismatch, PutsBy, PutsManifest}
 use Rattle.slate_follow.specs.Rebuilding.{IsOfFollowing, IsOfReplay}
 use Rattle.slate_follow.proofs.Rebuilt.{if_some, some_at}
@@ -256,3 +259,43 @@ module _ (refused : Objects → SlateError → Type 0) (plan : Plan Lease) (old 
 
       pub put-by : {A : Type 0} (answer : A) → WhereModelled (λ o o'. PutsBy refused plan old o (Ok answer) (Some given) o') b d
       put-by answer = record { none = λ no. kept ∙ puts.none no; some = λ o at. let h = puts.some o at in (h.0, kept ∙ h.1, put-then refused plan old o next given gives h.0 h.2 answer) }
+
+-- ---- a refusal that the latest manifest decides comes at the first try
+-- a plan that is refused puts nothing, so nothing stands in its way
+none-stands : (plan : VersionedManifest → Plan Lease) (o : Objects) (latest : VersionedManifest) → latest_manifest o ≡ Some latest → (refusal : StoreRefusal) → plan latest ≡ Err refusal → Stands (checkpoint_changes plan o) o → ⊥
+none-stands plan o latest is refusal refused stands = by (subst (λ cs. Stands cs o) (ap (planned_after plan) is ∙ ap planned refused) stands) where
+  by : Stands {L = List Batch} [] o → ⊥
+  by (change, (k, low, at), there) = omega (arith, low)
+
+-- one manifest isn't refused and followed
+one-refusal : (x : Option Extractor) (o : Objects) (e : SlateError) → RefusesLatest x true o (Some e) → RefusesLatest x true o None → ⊥
+one-refusal x o e a b =
+    let same : b.0 ≡ a.0 = some-same b.0 a.0 (sym b.1 ∙ a.1) in
+    let never : Some e ≡ None = sym a.2 ∙ subst (λ v. follow_refusal x true v ≡ None) same b.2 in
+    cc
+
+module _ (lifetime : ℕ) (moment : ℤ) (x : Option Extractor) where
+  abbrev takes : VersionedManifest → Plan Lease
+  takes = to_take lifetime moment
+
+  never-refused : (o : Objects) → Stands (checkpoint_changes takes o) o → RefusesLatest x true o None → (e : SlateError) → PlanCause (Stands (checkpoint_changes takes o) o) takes o e ⊎ MayMismatch o e → (MayMismatch o e → TakeRefusal x o e) → IsOfLatest e → ⊥
+  never-refused o stands fits errors.LatestTransactionalObjectVersionMissing (inl none) mismatch first = (let is = fits.1 in cc)
+  never-refused o stands fits errors.LatestTransactionalObjectVersionMissing (inr may) mismatch first = may
+  never-refused o stands fits errors.InvalidDBState (inl cause) mismatch first = none-stands takes o cause.0 cause.1 refusals.InvalidDBState cause.2 stands
+  never-refused o stands fits errors.InvalidDBState (inr may) mismatch first = may
+  never-refused o stands fits (errors.SegmentExtractorMismatch persisted configured) cause mismatch first = one-refusal x o (errors.SegmentExtractorMismatch persisted configured) (mismatch tt) fits
+  never-refused o stands fits (errors.SegmentPrefixNotRecognized prefix name) cause mismatch first = one-refusal x o (errors.SegmentPrefixNotRecognized prefix name) (mismatch tt) fits
+  never-refused o stands fits (errors.CheckpointMissing id) (inl cause) mismatch first = cause
+  never-refused o stands fits (errors.CheckpointMissing id) (inr may) mismatch first = may
+  never-refused o stands fits e cause mismatch first = first
+
+  pub first-try : (t t1 t' : Option Objects) → t1 ≡ t → (e : SlateError) → WhereModelled (λ o o'. (made : ℕ) × PutsPlanned {B = VersionedManifest × Lease} Stands MayMismatch takes o (Err e) made o') t1 t' → IfSome t1 (λ o. MayMismatch o e → TakeRefusal x o e) →
+      (earlier n n1 n' : ℕ) → n1 ≤ n + 2 * earlier → (IsOfLatest e → n' ≤ n1 + 1) → (0 < earlier → IfSome t (λ o. PlanCause (Stands (checkpoint_changes takes o) o) takes o (errors.TransactionalObjectTimeout 8))) →
+      (0 < earlier → IfSome t (λ o. RefusesLatest x true o None)) → (o : Objects) → t ≡ Some o → IsOfLatest e → n' ≤ n + 1
+  first-try t t1 t' kept e puts mismatch earlier n n1 n' most one met fits o at first = by earlier refl where
+    by : (k : ℕ) → earlier ≡ k → n' ≤ n + 1
+    by zero none = (let last = one first in omega (arith, most, none, last))
+    by (suc k) more =
+        let some : 0 < earlier = omega (arith, more) in
+        let stands = (some_at (λ o. PlanCause (Stands (checkpoint_changes takes o) o) takes o (errors.TransactionalObjectTimeout 8)) t o at (met some)).1 in
+        absurd (never-refused o stands (some_at (λ o. RefusesLatest x true o None) t o at (fits some)) e (puts.some o (kept ∙ at)).2.1.cause (some_at (λ o. MayMismatch o e → TakeRefusal x o e) t1 o (kept ∙ at) mismatch) first)

@@ -1,12 +1,12 @@
 -- A poll of a reader that keeps a checkpoint, of a round and maybe a renewal of the lease that this took.
 use Rattle.std.proofs.Common.{◌≡◌, ◌+◌, ◌≤◌, ◌∙◌, ◌∷◌, [], ℕ, ℤ, inl, inr, Bool, true, false, cond, length, List, Option, Some, None, Result, Ok, Err, refl, sym, subst, ap, arith}
 use Rattle.std.specs.Option.{IfSome}
-use Rattle.std.specs.Prelude.{◌&&◌}
+use Rattle.std.specs.Prelude.{◌&&◌, IsSome}
 use Rattle.slate_types.specs.Modelled.{WhereModelled}
 use Rattle.slate_types.proofs.Modelled.{modelled_as}
 use Rattle.slate_types.specs.declared.batches.Batch.{Batch}
 use Rattle.slate_types.specs.declared.store_errors.StoreFault.TheVariants.{Unavailable}
-use Rattle.slate_store.specs.Checkpoints.{Plan, to_refresh}
+use Rattle.slate_store.specs.Checkpoints.{Plan, found, to_refresh}
 use Rattle.slate_store.specs.Objects.{Objects, PutManifest, changed, latest_manifest}
 use Rattle.slate_store.specs.Refusals.{planned}
 use Rattle.slate_store.specs.declared.objects.Checkpoint.{Checkpoint}
@@ -21,10 +21,10 @@ use Rattle.slate_model.specs.Changes.{after_part}
 use Rattle.slate_model.specs.Follower.{Follower}
 use Rattle.slate_model.specs.Known.{CountsFaults, Known}
 use Rattle.slate_model.specs.Lease.{differs, is_due, is_due_at_once, leased, renews_taken, replaces}
-use Rattle.slate_model.specs.Managed.{Keeps, KeepsLease, PollsLeased, PutsRenewal, RenewsTaken, poll_result}
+use Rattle.slate_model.specs.Managed.{IsOpenAt, Keeps, KeepsLease, PollsLeased, PutsRenewal, RenewsTaken, poll_result}
 use Rattle.slate_model.specs.Segments.{Extractor}
 use Rattle.slate_model.specs.Stores.{Stands, by_objects}
-use Rattle.slate_follow.specs.Keeping.{CallsKeeping, CallsRound, GivesLease, MovesBy, PutsManifest, calls_to_keep}
+use Rattle.slate_follow.specs.Keeping.{CallsKeeping, CallsRound, FailsRenewal, GivesLease, HasTaken, MovesBy, PutsManifest, calls_to_keep}
 use Rattle.slate_follow.specs.Rebuilding.{new_logs}
 use Rattle.slate_follow.proofs.Keeping.{replaces-by, to-replace}
 use Rattle.slate_follow.proofs.Rebuilt.{if_some, some_at}
@@ -133,7 +133,7 @@ module _ (x : Option Extractor) (lease : Lease) (moment : ℤ) (old : Follower) 
     pub one-round : RenewsTaken old lease moment false before → PollsLeased (by_objects t) x made lease moment old before (Ok answer) middle between
     one-round ends = inl (record { round = round; ends = ends })
 
-    module _ (renews : RenewsTaken old lease moment true before) (taken : Lease) (leased : middle.lease ≡ Some taken) where
+    module _ (renews : RenewsTaken old lease moment true before) (taken : Lease) (leased : middle.lease ≡ Some taken) (due : is_due moment taken ≡ true) where
       abbrev plan : Plan Checkpoint
       plan = to_refresh taken.id taken.lifetime moment middle.view
 
@@ -156,6 +156,7 @@ module _ (x : Option Extractor) (lease : Lease) (moment : ℤ) (old : Follower) 
               renews = renews;
               given = taken;
               leased = leased;
+              due = due;
               faults = all-well f1 f' answer faults.stays;
               puts = modelled_as (λ o o'. PutsRenewal Stands plan o (Ok answer) again.0 o') again.1 (λ o o' h. record { cause = tt; done = h.done; part = h.part; after = h.after });
               answers = (refl, refl);
@@ -179,6 +180,7 @@ module _ (x : Option Extractor) (lease : Lease) (moment : ℤ) (old : Follower) 
               renews = renews;
               given = taken;
               leased = leased;
+              due = due;
               faults = counts-then f1 f1 f' e refl faults;
               puts = modelled_as (λ o o'. PutsRenewal {A = PollAnswer} Stands plan o (Err e) again.0 o') again.1 (λ o o' h. record { cause = h.cause; done = tt; part = h.part; after = h.after });
               answers = tt;
@@ -198,7 +200,7 @@ module _ (x : Option Extractor) (lease : Lease) (moment : ℤ) (old : Follower) 
         by None bare = once (none bare) (untaken-renews t t1 f old middle lease moment answer moves keeps bare)
         by (Some taken) held = by_due (is_due moment taken) refl where
           by_due : (b : Bool) → is_due moment taken ≡ b → (n : ℕ) × PollsLeased (by_objects t) x n lease moment old before (Ok answer) middle after
-          by_due true due = two-rounds (taken-renews t t1 f old middle lease moment answer moves keeps true taken held due) taken held faults (puts taken held due)
+          by_due true due = two-rounds (taken-renews t t1 f old middle lease moment answer moves keeps true taken held due) taken held due faults (puts taken held due)
           by_due false due = once (undue taken held due) (taken-renews t t1 f old middle lease moment answer moves keeps false taken held due)
 
       pub failed-polls : (e : SlateError) (new : Follower) → new ≡ record middle { result = poll_result e } → CountsFaults {A = Unit {0}} f1 f' (Err e) → ((taken : Lease) → middle.lease ≡ Some taken → RenewsAt {A = Unit {0}} moment middle.view (Err e) t1 t' taken) →
@@ -208,8 +210,35 @@ module _ (x : Option Extractor) (lease : Lease) (moment : ℤ) (old : Follower) 
         by None bare = absurd (none bare)
         by (Some taken) held = by_due (is_due moment taken) refl where
           by_due : (b : Bool) → is_due moment taken ≡ b → (n : ℕ) × PollsLeased (by_objects t) x n lease moment old before (Err e) new after
-          by_due true due = failed-again (taken-renews t t1 f old middle lease moment answer moves keeps true taken held due) taken held e new closed faults (puts taken held due)
+          by_due true due = failed-again (taken-renews t t1 f old middle lease moment answer moves keeps true taken held due) taken held due e new closed faults (puts taken held due)
           by_due false due = absurd (undue taken held due)
+
+-- what it leaves that fails, with any extractor
+pub renewal-left : (lease : Lease) (moment : ℤ) (old : Follower) (t t1 t' : Option Objects) → old.lease ≡ Some lease → (middle : Follower) (answer : PollAnswer) → IsOpenAt old.skips old.lag middle answer → IfSome t (MovesBy true old) →
+    WhereModelled (λ o o'. Keeps (by_objects t) lease moment old o middle answer o') t t1 → HasTaken middle → (e : SlateError) → ((taken : Lease) → middle.lease ≡ Some taken → RenewsAt {A = Unit {0}} moment middle.view (Err e) t1 t' taken) →
+    ((taken : Lease) → middle.lease ≡ Some taken → is_due moment taken ≡ false → ⊥) → (middle.lease ≡ None → ⊥) → (new : Follower) → new ≡ record middle { result = poll_result e } → FailsRenewal moment old t e new t'
+renewal-left lease moment old t t1 t' held middle answer opened moves keeps there e puts undue none new closed = by middle.lease refl where
+  by : (l : Option Lease) → middle.lease ≡ l → FailsRenewal moment old t e new t'
+  by None bare = absurd (none bare)
+  by (Some taken) leased = by_due (is_due moment taken) refl where
+    by_due : (b : Bool) → is_due moment taken ≡ b → FailsRenewal moment old t e new t'
+    by_due false early = absurd (undue taken leased early)
+    by_due true due = record {
+      lease = lease;
+      held = held;
+      middle = middle;
+      answer = answer;
+      between = t1;
+      opened = opened;
+      moved = moves;
+      keeps = keeps;
+      taken = taken;
+      leased = leased;
+      there = some_at (λ (l : Lease). IsSome (found l.id middle.view)) middle.lease taken leased there;
+      due = due;
+      puts = puts taken leased due;
+      becomes = closed;
+    }
 
 -- whether the renewal was made, by what it cost
 pub renewal-calls : (t t1 : Option Objects) (f : ℕ) (old middle : Follower) (lease : Lease) (moment : ℤ) (answer : PollAnswer) → IfSome t (MovesBy true old) → WhereModelled (λ o o'. Keeps (by_objects t) lease moment old o middle answer o') t t1 →

@@ -104,6 +104,15 @@ pub lacks-later : (x : Option Extractor) (a b : List Batch) (e : SlateError) →
 lacks-later None a b e there = absurd (cc)
 lacks-later (Some x) a b e there = lacks-either x a b e there (unsegmented_refusal (Some x) (ops_of a)) refl
 
+-- the first key that has none is that of more batches, too; no batches lack one
+pub first-refused : (x : Option Extractor) (a b : List Batch) (e : SlateError) → unsegmented_refusal x (ops_of a) ≡ Some e → unsegmented_refusal x (ops_of (a ++ b)) ≡ Some e
+first-refused None a b e here = absurd (cc)
+first-refused (Some x) a b e here = some-first x a b e here
+
+pub none-lacks : (x : Option Extractor) (key : List ℕ) → Lacks x [] key → ⊥
+none-lacks None key lacks = cc
+none-lacks (Some x) key lacks = cc
+
 pub lacks-named : (x : Option Extractor) (bs : List Batch) (e : SlateError) → unsegmented_refusal x (ops_of bs) ≡ Some e → (key : List ℕ) × Lacks x bs key
 lacks-named None bs e there = absurd (cc)
 lacks-named (Some x) bs e there = let named = refusal-key x (ops_of bs) e there in (named.0, there ∙ ap Some named.1)

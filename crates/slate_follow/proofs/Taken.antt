@@ -20,7 +20,7 @@ use Rattle.slate_replay.specs.declared.replays.Replayed.{Replayed}
 use Rattle.slate_errors.specs.declared.errors.SlateError.{SlateError}
 use Rattle.slate_errors.specs.declared.errors.SlateError.TheVariants as errors
 use Rattle.slate_model.specs.Changes.{after_part}
-use Rattle.slate_model.specs.Follow.{ReplayRefuses}
+use Rattle.slate_model.specs.Follow.{ReplayRefuses, SeesOwed}
 use Rattle.slate_model.specs.Followed.{RefusesLatest, can_follow, last_read}
 use Rattle.slate_model.specs.Follower.{Follower, HasSegments}
 use Rattle.slate_model.specs.Known.{CountsFaults, IsContent}
@@ -30,7 +30,7 @@ use Rattle.slate_model.specs.Segments.{Extractor, ops_of, unsegmented_refusal}
 use Rattle.slate_model.specs.Stores.{Stands, by_objects}
 use Rattle.slate_model.specs.declared.answers.PollAnswer.{PollAnswer}
 use Rattle.slate_model.specs.declared.leases.Lease.{Lease}
-use Rattle.slate_follow.specs.Keeping.{KeepLacks, MayLack, MayMismatch}
+use Rattle.slate_follow.specs.Keeping.{FailsRound, KeepLacks, MayLack, MayMismatch}
 use Rattle.slate_follow.specs.Rebuilding.{BuildLacks, Builds, IsOfRebuilding}
 use Rattle.slate_follow.proofs.Keeping.{PutsAndKeeps}
 use Rattle.slate_follow.proofs.Lacking.{keep-lacks, keep-some, put-refuses}
@@ -111,29 +111,48 @@ module _ (refused : Objects → SlateError → Type 0) (lifetime : ℕ) (skips :
       (subst (λ s. Replays m.replay_after_wal_id (last_read ManagedCheckpoint skips next s) m.last_l0_seq [] batches s (Ok found)) taken-after logs) lacks stored at content_is
 
   -- what was built of the manifest that it put
-  pub takes : (t : Option Objects) → t ≡ Some o → (built new : Follower) (answer : PollAnswer) (reach : ℕ) → reach ≡ last_read ManagedCheckpoint skips next o' → Builds o' ManagedCheckpoint skips next reach built answer → built.lease ≡ None →
-      new ≡ record built { lease = Some given } → Takes (by_objects t) lifetime skips moment o new answer o'
-  takes t at built new answer reach reach_is builds bare becomes =
+  pub takes : (t : Option Objects) → t ≡ Some o → (built new : Follower) (answer : PollAnswer) (lag reach : ℕ) → reach ≡ last_read ManagedCheckpoint skips next o' → Builds o' ManagedCheckpoint skips lag next reach built answer → built.lease ≡ None →
+      new ≡ record built { lease = Some given } → Takes (by_objects t) lifetime skips lag moment o new answer o'
+  takes t at built new answer lag reach reach_is builds bare becomes =
       let plan = leased lifetime (to_write None (Some lifetime) moment is.0) in
       let gives = taken-from lifetime moment is.0 next given is.2 in
-      let b = builds-latest plan o' ManagedCheckpoint skips next reach built new answer given refl builds bare becomes reach_is gives in
+      let b = builds-latest plan o' ManagedCheckpoint skips lag next reach built new answer given refl builds bare becomes reach_is gives in
       let view : new.view ≡ next = ap (λ (f : Follower). f.view) becomes ∙ ap (λ (f : Follower). f.view) builds.becomes in
-      let moved = subst (λ v. Builds o' ManagedCheckpoint skips v (last_read ManagedCheckpoint skips v o') (follower_under v new) answer) view b.builds in
-      let in_after = subst (λ x. Builds x ManagedCheckpoint skips next (last_read ManagedCheckpoint skips next x) (follower_under next new) answer) taken-after moved in
-      let seen = built-latest o is.0 next is.1 (written o is.0 is.1 lifetime moment next given None gives) skips new answer in_after t unseen_line at in
+      let moved = subst (λ v. Builds o' ManagedCheckpoint skips lag v (last_read ManagedCheckpoint skips v o') (follower_under v new) answer) view b.builds in
+      let in_after = subst (λ x. Builds x ManagedCheckpoint skips lag next (last_read ManagedCheckpoint skips next x) (follower_under next new) answer) taken-after moved in
+      let seen = built-latest o is.0 next is.1 (written o is.0 is.1 lifetime moment next given None gives) skips lag new answer in_after t unseen_line at in
       record {
         given = given;
         plan = (is.0, is.1, is.2 ∙ ap (λ v. Ok (Some v, given)) (sym view));
         leased = ap (λ (f : Follower). f.lease) becomes;
-        sees = subst (λ v. SeesLatest (by_objects t) skips unseen_line v o' new answer) (sym view) (subst (λ x. SeesLatest (by_objects t) skips unseen_line next x new answer) (sym taken-after) seen);
+        sees = subst (λ v. SeesLatest (by_objects t) skips 0 (SeesOwed (by_objects t) ManagedCheckpoint skips lag) unseen_line v o' new answer) (sym view) (subst (λ x. SeesLatest (by_objects t) skips 0 (SeesOwed (by_objects t) ManagedCheckpoint skips lag) unseen_line next x new answer) (sym taken-after) seen);
       }
 
 -- ---- a poll
+-- a round that failed leaves a reader as it was, but for its lease, and the error is recorded
+pub failed-leaves : (old inner new : Follower) (e : SlateError) → inner ≡ record old { lease = inner.lease } → new ≡ record inner { result = poll_result e } → new ≡ record old { lease = new.lease; result = poll_result e }
+failed-leaves old inner new e failed closed =
+    closed ∙ (ap (λ (x : Follower). record x { result = poll_result e }) failed ∙ ap (λ l. record old { lease = l; result = poll_result e }) (sym (ap (λ (x : Follower). x.lease) closed)))
+
+-- so, with any extractor
+pub round-left : (lease : Lease) (moment : ℤ) (old : Follower) (t t' : Option Objects) → old.lease ≡ Some lease → (e : SlateError) (inner new : Follower) → WhereModelled (PutsAndKeeps lease moment old (Err e) inner) t t' →
+    inner ≡ record old { lease = inner.lease } → new ≡ record inner { result = poll_result e } → FailsRound moment old t e new t'
+round-left lease moment old t t' held e inner new goes failed closed =
+    let plan = to_keep old.view lease moment in
+    let same : new.lease ≡ inner.lease = ap (λ (x : Follower). x.lease) closed in
+    record {
+      lease = lease;
+      held = held;
+      puts = modelled_as (λ o o'. (made : ℕ) × PutsPlanned {B = PollAnswer} Stands MayLack plan o (Err e) made o' × KeepsOrNot plan made old o new) goes
+          (λ o o' h. (h.0, h.1, subst (λ l. KeepsOrNot plan h.0 old o (record old { lease = l })) (sym same) h.2));
+      becomes = failed-leaves old inner new e failed closed;
+    }
+
 module _ (x : Option Extractor) (lease : Lease) (moment : ℤ) (old : Follower) (t t' : Option Objects) (f f' : ℕ) where
   abbrev keeps_plan : VersionedManifest → Plan Lease
   keeps_plan = to_keep old.view lease moment
 
-  pub keeps-ok : (answer : PollAnswer) (new : Follower) → CountsFaults {A = PollAnswer} f f' (Ok answer) → WhereModelled (PutsAndKeeps lease moment old (Ok answer) new) t t' → IsOpenAt old.skips new answer →
+  pub keeps-ok : (answer : PollAnswer) (new : Follower) → CountsFaults {A = PollAnswer} f f' (Ok answer) → WhereModelled (PutsAndKeeps lease moment old (Ok answer) new) t t' → IsOpenAt old.skips old.lag new answer →
       WhereModelled (λ o o'. Keeps (by_objects t) lease moment old o new answer o') t t' → (HasSegments x old → HasSegments x new) →
       (made : ℕ) × KeepsLease (by_objects t) x made lease moment old (record { objects = t; faults = f }) (Ok answer) new (record { objects = t'; faults = f' })
   keeps-ok answer new faults goes answers keeps segments =
@@ -164,8 +183,7 @@ module _ (x : Option Extractor) (lease : Lease) (moment : ℤ) (old : Follower) 
       let P : ℕ → Objects → Objects → Type 0 = λ made o o'. PutsPlanned {B = PollAnswer} Stands MayLack keeps_plan o (Err e) made o' × IfErr {T = PollAnswer} (Err e) (λ _. KeepsOrNot keeps_plan made old o inner) in
       let m = with-made {P = P} {a = t} {b = t'} (modelled_as (λ o o'. (made : ℕ) × P made o o') goes (λ o o' h. (h.0, (h.1, h.2)))) in
       let same : new.lease ≡ inner.lease = ap (λ (x : Follower). x.lease) closed in
-      let becomes : new ≡ record old { lease = new.lease; result = poll_result e } =
-      closed ∙ (ap (λ (x : Follower). record x { result = poll_result e }) failed ∙ ap (λ l. record old { lease = l; result = poll_result e }) (sym same)) in (
+      let becomes = failed-leaves old inner new e failed closed in (
         m.0,
         record {
           faults = faults;
@@ -185,12 +203,12 @@ module _ (x : Option Extractor) (lease : Lease) (moment : ℤ) (old : Follower) 
       )
 
 -- ---- an opening, by its steps
-module _ (x : Option Extractor) (lifetime : ℕ) (skips : Bool) (moment : ℤ) (t t' : Option Objects) (f f' : ℕ) where
+module _ (x : Option Extractor) (lifetime : ℕ) (skips : Bool) (lag : ℕ) (moment : ℤ) (t t' : Option Objects) (f f' : ℕ) where
   abbrev takes_plan : VersionedManifest → Plan Lease
   takes_plan = to_take lifetime moment
 
   abbrev TakesSo : Result (Follower × PollAnswer) SlateError → Type 0
-  TakesSo result = (made : ℕ) × TakesLease (by_objects t) x made lifetime skips moment (record { objects = t; faults = f }) result (record { objects = t'; faults = f' })
+  TakesSo result = (made : ℕ) × TakesLease (by_objects t) x made lifetime skips lag moment (record { objects = t; faults = f }) result (record { objects = t'; faults = f' })
 
   -- no checkpoint was committed
   pub take-failed : (e : SlateError) → WhereModelled (λ o o'. (made : ℕ) × PutsPlanned {B = VersionedManifest × Lease} Stands MayMismatch takes_plan o (Err e) made o') t t' → IfSome t (λ o. MayMismatch o e → TakeRefusal x o e) →
@@ -261,10 +279,10 @@ module _ (x : Option Extractor) (lifetime : ℕ) (skips : Bool) (moment : ℤ) (
     )
 
     -- or the reader was built
-    pub take-done : (built new : Follower) (answer : PollAnswer) (reach : ℕ) → IfSome t' (λ o. reach ≡ last_read ManagedCheckpoint skips next o) → IfSome t' (λ o. Builds o ManagedCheckpoint skips next reach built answer) → built.lease ≡ None →
-        new ≡ record built { lease = Some given } → HasSegments x built → unsegmented_refusal x (ops_of built.line.batches) ≡ None → IsOpenAt skips new answer → CountsFaults {A = Follower × PollAnswer} f f' (Ok (new, answer)) → TakesSo (Ok (new, answer))
+    pub take-done : (built new : Follower) (answer : PollAnswer) (reach : ℕ) → IfSome t' (λ o. reach ≡ last_read ManagedCheckpoint skips next o) → IfSome t' (λ o. Builds o ManagedCheckpoint skips lag next reach built answer) → built.lease ≡ None →
+        new ≡ record built { lease = Some given } → HasSegments x built → unsegmented_refusal x (ops_of built.line.batches) ≡ None → IsOpenAt skips lag new answer → CountsFaults {A = Follower × PollAnswer} f f' (Ok (new, answer)) → TakesSo (Ok (new, answer))
     take-done built new answer reach reads builds bare becomes has whole answers faults =
-        let builds-at : (o : Objects) → t' ≡ Some o → Builds o ManagedCheckpoint skips next reach built answer = λ o at. some_at (λ o. Builds o ManagedCheckpoint skips next reach built answer) t' o at builds in
+        let builds-at : (o : Objects) → t' ≡ Some o → Builds o ManagedCheckpoint skips lag next reach built answer = λ o at. some_at (λ o. Builds o ManagedCheckpoint skips lag next reach built answer) t' o at builds in
         let reads-at : (o : Objects) → t' ≡ Some o → reach ≡ last_read ManagedCheckpoint skips next o = λ o at. some_at (λ o. reach ≡ last_read ManagedCheckpoint skips next o) t' o at reads in (
           1,
           record {
@@ -278,7 +296,7 @@ module _ (x : Option Extractor) (lifetime : ℕ) (skips : Bool) (moment : ℤ) (
               none = λ no. kept ∙ puts.none no;
               some = λ o at.
                   let h = put-at o at in
-                  (h.0, h.1, takes MayMismatch lifetime skips moment o h.0 1 next given (plan-at o at) h.2 t at built new answer reach (reads-at h.0 h.1) (builds-at h.0 h.1) bare becomes);
+                  (h.0, h.1, takes MayMismatch lifetime skips moment o h.0 1 next given (plan-at o at) h.2 t at built new answer lag reach (reads-at h.0 h.1) (builds-at h.0 h.1) bare becomes);
             };
             fits = λ o at. fits-at o at;
             segmented = λ o line at stored.

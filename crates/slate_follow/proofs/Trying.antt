@@ -6,7 +6,7 @@ use Rattle.std.specs.Prelude.{ℤ, ◌⊎◌, nat_lt, unwrap_or}
 use Rattle.std.specs.Result.{IfErr, IfOk}
 use Rattle.slate_types.specs.Modelled.{WhereModelled}
 use Rattle.slate_types.specs.Line.{AreNumberedFrom, batches_above}
-use Rattle.slate_replay.specs.Replay.{line_of}
+use Rattle.slate_replay.specs.Replay.{Replays, line_of}
 use Rattle.slate_follow.specs.Growing.{IsPushed, added_to, settled}
 use Rattle.slate_types.specs.declared.batches.Batch.{Batch}
 use Rattle.slate_store.specs.Checkpoints.{Plan, found, lease_end, to_end}
@@ -30,11 +30,12 @@ use Rattle.slate_model.specs.Stores.{Stands, by_objects}
 use Rattle.slate_model.specs.declared.answers.PollAnswer.{PollAnswer}
 use Rattle.slate_model.specs.declared.leases.Lease.{Lease}
 use Rattle.slate_follow.specs.Keeping.{ComesFrom, FindsLatest, IsNews, MayLack, PutsBy, PutsManifest, TakesLatest, informed}
-use Rattle.slate_follow.specs.Rebuilding.{TakesUnder, Truncates, answer_of, last_above, unleased}
+use Rattle.slate_follow.specs.Rebuilding.{TakesUnder, Truncates, answer_of, reached, unleased}
+use Rattle.slate_follow.specs.Lagging.{IsLastTaken}
 use Rattle.slate_follow.proofs.Continued.{replayed-truncates, took-truncates}
 use Rattle.slate_model.specs.declared.answers.PollAnswer.TheVariants as answers
 use Rattle.slate_follow.proofs.Keeping.{PutsAndKeeps, puts-by, renewal, renewed-keeps, replaced-keeps, replacement, stays-keeps, to-renewal, to-stay}
-use Rattle.slate_follow.proofs.Informed.{informed-seen}
+use Rattle.slate_follow.proofs.Informed.{informed-come, informed-seen}
 use Rattle.slate_follow.proofs.Planned.{modelled-kept, modelled-put, stays-put}
 use Rattle.slate_follow.proofs.Rebuilt.{if_some, some_at}
 use Rattle.slate_follow.proofs.Segmented.{all-above}
@@ -44,16 +45,17 @@ answers-at : (n : ℕ) (replayed : Replayed) → AnswersAt n (answer_of replayed
 answers-at n replays.Whole = inl refl
 answers-at n (replays.Truncated id) = inr refl
 
-informed-asked : (old : Follower) (skips : Bool) (added : List Batch) (mark : ℕ) → ((informed old skips added mark).mode ≡ old.mode) × ((informed old skips added mark).skips ≡ old.skips) × ((informed old skips added mark).result ≡ None)
-informed-asked old true added mark = (refl, refl, refl)
-informed-asked old false added mark = (refl, refl, refl)
+informed-asked : (old : Follower) (skips : Bool) (added : List Batch) (mark : ℕ) → ((informed old skips added mark).mode ≡ old.mode) × ((informed old skips added mark).skips ≡ old.skips) × ((informed old skips added mark).lag ≡ old.lag) × ((informed old skips added mark).result ≡ None)
+informed-asked old true added mark = (refl, refl, refl, refl)
+informed-asked old false added mark = (refl, refl, refl, refl)
 
-pub informed-open : (old new : Follower) (added : List Batch) (replayed : Replayed) (mark : ℕ) (lease : Option Lease) (answer : PollAnswer) → old.mode ≡ ManagedCheckpoint → unsegmented new ≡ record (informed old old.skips added mark) { lease = lease } → answer ≡ answer_of replayed (number new) → IsOpenAt old.skips new answer
+pub informed-open : (old new : Follower) (added : List Batch) (replayed : Replayed) (mark : ℕ) (lease : Option Lease) (answer : PollAnswer) → old.mode ≡ ManagedCheckpoint → unsegmented new ≡ record (informed old old.skips added mark) { lease = lease } → answer ≡ answer_of replayed (number new) → IsOpenAt old.skips old.lag new answer
 informed-open old new added replayed mark lease answer managed becomes answers =
     let asked = informed-asked old old.skips added mark in (
       ap (λ (f : Follower). f.mode) becomes ∙ (asked.0 ∙ managed),
       ap (λ (f : Follower). f.skips) becomes ∙ asked.1,
-      ap (λ (f : Follower). f.result) becomes ∙ asked.2,
+      ap (λ (f : Follower). f.lag) becomes ∙ asked.2,
+      ap (λ (f : Follower). f.result) becomes ∙ asked.3,
       subst (AnswersAt (number new)) (sym answers) (answers-at (number new) replayed),
     )
 
@@ -79,7 +81,7 @@ module _ (old mid new : Follower) (n m : ℕ) (had : Option (List (List ℕ))) (
   abbrev shape : List Batch → List (List ℕ) → Follower → Follower
   shape bs segments f = record f { line = line_of tabled bs; segments = segments; mark = mid.mark; lease = mid.lease }
 
-  plain : (bs : List Batch) (segments : List (List ℕ)) → shape bs segments old ≡ record (rebuilt old.mode old.skips old.view (line_of tabled bs) mid.mark) { segments = segments; lease = mid.lease }
+  plain : (bs : List Batch) (segments : List (List ℕ)) → shape bs segments old ≡ record (rebuilt old.mode old.skips old.lag old.view (line_of tabled bs) mid.mark) { segments = segments; lease = mid.lease }
   plain bs segments =
       ap (λ t. record (shape bs segments old) { tasks = t }) tasks ∙ ap (λ r. record (shape bs segments old) { tasks = follower_tasks old.mode; result = r }) open_
 
@@ -108,21 +110,47 @@ pub news-comes : (o : Objects) (latest : VersionedManifest) → latest_manifest 
     IsNews o old latest old.skips (added_to old.line.batches mid.line.batches) found mid.mark → ComesFrom old mid o
 news-comes o latest is old mid n m had managed open_ tasks floor numbered pushed more same found news =
     let skips : mid.skips ≡ old.skips = ap (λ (f : Follower). f.skips) pushed.same in
+    let view : mid.view ≡ old.view = ap (λ (f : Follower). f.view) pushed.same in
     let added = added_to old.line.batches mid.line.batches in
     record {
-      mode = ap (λ (f : Follower). f.mode) pushed.same ∙ managed;
+      managed = managed;
+      mode = ap (λ (f : Follower). f.mode) pushed.same;
       skips = skips;
+      lag = ap (λ (f : Follower). f.lag) pushed.same;
+      view = view;
+      came = λ reads sound seen.
+          let reading : old.skips ≡ false = sym skips ∙ reads in
+          informed-come o latest is old mid managed view same floor reading added found mid.mark (subst (λ s. IsNews o old latest s added found mid.mark) reading news) (plain reads reading) sound seen;
       seen = λ reads sound seen.
           let reading : old.skips ≡ false = sym skips ∙ reads in
-          let becomes = settled-informed old mid mid n m had open_ tasks floor numbered pushed more (subst (λ s. mid ≡ settled s mid) (sym reads) refl) in
-          let plain = ap unsegmented becomes ∙ informed-plain old old.skips added mid.mark mid.segments mid.lease in
-          informed-seen o latest is old mid managed (ap (λ (f : Follower). f.view) pushed.same) same floor reading added found mid.mark
-          (subst (λ s. IsNews o old latest s added found mid.mark) reading news) (subst (λ s. unsegmented mid ≡ record (informed old s added mid.mark) { lease = mid.lease }) reading plain) sound seen;
+          informed-seen o latest is old mid managed view same floor reading added found mid.mark (subst (λ s. IsNews o old latest s added found mid.mark) reading news) (plain reads reading) sound seen;
     }
+  where
+    plain : mid.skips ≡ false → old.skips ≡ false → unsegmented mid ≡ record (informed old false (added_to old.line.batches mid.line.batches) mid.mark) { lease = mid.lease }
+    plain reads reading =
+        let becomes = settled-informed old mid mid n m had open_ tasks floor numbered pushed more (subst (λ s. mid ≡ settled s mid) (sym reads) refl) in
+        let bare = ap unsegmented becomes ∙ informed-plain old old.skips (added_to old.line.batches mid.line.batches) mid.mark mid.segments mid.lease in
+        subst (λ s. unsegmented mid ≡ record (informed old s (added_to old.line.batches mid.line.batches) mid.mark) { lease = mid.lease }) reading bare
+
+-- what is new, by the steps that took it
+pub news-is : (t t1 : Option Objects) → t1 ≡ t → (latest : VersionedManifest) (last from : ℕ) (old : Follower) → from ≡ max old.mark latest.manifest.replay_after_wal_id → IfSome t (λ o. IsLastTaken old.lag (number old) from o last) → old.skips ≡ false →
+    (added : List Batch) (found : Replayed) → IfSome t1 (λ o. Replays from last (number old) [] added o (Ok found)) → (mark : ℕ) → mark ≡ reached found last → IfSome t (λ o. IsNews o old latest old.skips added found mark)
+news-is t t1 kept latest last from old from_is reach reads added found logs mark mark_is = if_some t (λ o at.
+    let taken = subst (λ k. IsLastTaken old.lag (number old) k o last) from_is (some_at (λ o. IsLastTaken old.lag (number old) from o last) t o at reach) in
+    let here = subst (λ k. Replays k last (number old) [] added o (Ok found)) from_is (some_at (λ o. Replays from last (number old) [] added o (Ok found)) t1 o (kept ∙ at) logs) in
+    subst (λ s. IsNews o old latest s added found mark) (sym reads) (last, taken, here, mark_is))
 
 -- a reader has come on from itself
-pub comes-itself : (o : Objects) (old : Follower) → old.mode ≡ ManagedCheckpoint → ComesFrom old old o
-comes-itself o old managed = record { mode = managed; skips = refl; seen = λ reads sound seen. seen }
+pub comes-itself : (o : Objects) (latest : VersionedManifest) → latest_manifest o ≡ Some latest → (old : Follower) → old.mode ≡ ManagedCheckpoint → ComesFrom old old o
+comes-itself o latest is old managed = record {
+  managed = managed;
+  mode = refl;
+  skips = refl;
+  lag = refl;
+  view = refl;
+  came = λ reads sound seen. (latest, is, inl (refl, inl refl));
+  seen = λ reads sound seen. seen;
+}
 
 -- by its lease and its segments
 pub settled-lease : (mid new : Follower) (skips : Bool) → new ≡ settled skips mid → new.lease ≡ mid.lease
@@ -192,8 +220,8 @@ put-takes plan next given gives old new answer lease view {t1} {t'} kept took = 
     }) where
       -- its lease before that is no matter
       by : (o : Objects) → TakesUnder o next (record old { lease = lease }) (unleased new) answer → TakesUnder o next old (unleased new) answer
-      by o (inl (reads, reaches, goes)) = inl (reads, reaches, record { added = goes.added; found = goes.found; logs = goes.logs; becomes = goes.becomes; answers = goes.answers })
-      by o (inr builds) = inr builds
+      by o (inl (reads, reaches, last, taken, goes)) = inl (reads, reaches, last, taken, record { added = goes.added; found = goes.found; logs = goes.logs; becomes = goes.becomes; answers = goes.answers })
+      by o (inr (not_on, last, read, builds)) = inr (not_on, last, read, builds)
 
 -- a manifest that is put is no log file
 truncates-before : (o : Objects) (next : VersionedManifest) (f : Follower) (answer : PollAnswer) → Truncates (changed (PutManifest next.id next.manifest) o) f answer → Truncates o f answer
@@ -230,7 +258,7 @@ settled-mark mid new false becomes = ap (λ (f : Follower). f.mark) becomes
 pub news-truncates : (o : Objects) (latest : VersionedManifest) (old : Follower) (skips : Bool) (added : List Batch) (found : Replayed) (mark : ℕ) (new : Follower) (answer : PollAnswer) → IsNews o old latest skips added found mark → new.mark ≡ mark → answer ≡ answer_of found (number new) → Truncates o new answer
 news-truncates o latest old true added found mark new answer news mark_is answers = subst (Truncates o new) (sym (answers ∙ ap (λ f. answer_of f (number new)) news.1)) tt
 news-truncates o latest old false added found mark new answer news mark_is answers =
-    replayed-truncates o (max old.mark latest.manifest.replay_after_wal_id) (last_above old latest o) (number old) added found new answer news.0 (mark_is ∙ news.1) answers
+    replayed-truncates o (max old.mark latest.manifest.replay_after_wal_id) news.0 (number old) added found new answer news.2 (mark_is ∙ news.3) answers
 
 -- over a store that may be modelled
 pub kept-truncates : {A : Type 0} (P : Objects → A → Type 0) (r : Result A SlateError) {t t1 : Option Objects} → t1 ≡ t → IfOk r (λ a. IfSome t1 (λ o. P o a)) → IfOk r (λ a. IfSome t (λ o. P o a))

@@ -1,5 +1,5 @@
 -- What contracts see of a poll by single calls.
-use Rattle.std.specs.Prelude.{ℕ, ◌+◌, ◌<◌, ◌^◌, length, Option, Some, None, IsSome}
+use Rattle.std.specs.Prelude.{ℕ, ◌+◌, ◌<◌, ◌≤◌, ◌^◌, length, Option, Some, None, IsSome}
 use Rattle.slate_types.specs.Line.{AreNumberedFrom}
 use Rattle.slate_store.specs.declared.objects.VersionedManifest.{VersionedManifest}
 use Rattle.slate_model.specs.Begun as model
@@ -14,6 +14,7 @@ stage_of stages.ReadLatest commit = model.ReadsLatest
 stage_of stages.Put (Some commit) = model.Puts commit.next commit.lease commit.replaces
 stage_of stages.Put None = model.Ended
 stage_of stages.AskLast commit = model.AsksLast
+stage_of (stages.LookAt id last) commit = model.LooksAt id last
 stage_of (stages.ReadLog last) commit = model.ReadsLog last
 stage_of stages.ReadAgain commit = model.ReadsAgain
 stage_of stages.Ended commit = model.Ended
@@ -41,11 +42,12 @@ begun_of a =
     }
 
 -- What holds by the call that comes next: a reader that is to put a manifest has a lease, and before any call but the first and that a
--- manifest was read; the log file to be read isn't above the last.
+-- manifest was read; the log file to be read or looked at is above the mark, and isn't above the last.
 abbrev pub IsStaged : model.Stage → Option Lease → (latest : Option VersionedManifest) → (mark : ℕ) → Type 0
 IsStaged model.ReadsLatest lease latest mark = Unit {0}
 IsStaged (model.Puts next given replaces) lease latest mark = IsSome lease
 IsStaged model.AsksLast lease latest mark = IsSome latest
+IsStaged (model.LooksAt id last) lease latest mark = IsSome latest × (mark < id) × (id ≤ last)
 IsStaged (model.ReadsLog last) lease latest mark = IsSome latest × (mark < last)
 IsStaged model.ReadsAgain lease latest mark = Unit {0}
 IsStaged model.Ended lease latest mark = Unit {0}

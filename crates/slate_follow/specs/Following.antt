@@ -4,7 +4,7 @@ use Rattle.slate_types.specs.declared.batches.Batch.{Batch}
 use Rattle.slate_types.specs.Line.{IsPrefix, Line, batches_above}
 use Rattle.slate_store.specs.declared.objects.VersionedManifest.{VersionedManifest}
 use Rattle.slate_store.specs.Objects.{Objects, log_at}
-use Rattle.slate_model.specs.Begun.{AsksLast, Begun, Puts, ReadsLatest, ReadsLog, Stage, begun_at, no_step, reached_number}
+use Rattle.slate_model.specs.Begun.{AsksLast, Begun, LooksAt, Puts, ReadsLatest, ReadsLog, Stage, begun_at, no_step, reached_number}
 use Rattle.slate_errors.specs.declared.errors.SlateError.{SlateError}
 use Rattle.slate_model.specs.Follower.{Follower, number}
 use Rattle.slate_model.specs.declared.answers.PollAnswer.{PollAnswer}
@@ -32,6 +32,7 @@ abbrev pub StandsAt : Stage → Begun → Line → Objects → Type 0
 StandsAt ReadsLatest begun line objects = begun.view ≡ None
 StandsAt (Puts next given replaces) begun line objects = LogsAreOf next line objects
 StandsAt AsksLast begun line objects = IsReplaying begun line objects
+StandsAt (LooksAt id last) begun line objects = IsReplaying begun line objects
 StandsAt (ReadsLog last) begun line objects = IsReplaying begun line objects
 StandsAt stage begun line objects = Unit {0}
 

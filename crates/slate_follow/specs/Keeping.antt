@@ -1,31 +1,34 @@
 -- What the steps of a reader that keeps a checkpoint of its own put and answer.
-use Rattle.std.specs.Prelude.{◌≡◌, ℕ, ℤ, ◌+◌, ◌*◌, ◌≤◌, ◌⊎◌, is_none, if◌then◌else◌, Bool, true, false, max, List, [], ◌++◌, length, Option, Some, None, Result, Ok, Err, IfErr, IfSome, IsSome}
+use Rattle.std.specs.Prelude.{◌≡◌, ℕ, ℤ, ◌+◌, ◌*◌, ◌<◌, ◌≤◌, ◌⊎◌, is_none, if◌then◌else◌, Bool, true, false, max, List, [], ◌++◌, length, Option, Some, None, Result, Ok, Err, IfErr, IfSome, IsSome}
 use Rattle.slate_types.specs.declared.batches.Batch.{Batch}
-use Rattle.slate_types.specs.Line.{batches_above}
+use Rattle.slate_types.specs.Line.{batches_above, end}
 use Rattle.slate_types.specs.declared.store_errors.StoreFault.TheVariants.{Unavailable}
 use Rattle.slate_store.specs.declared.objects.VersionedManifest.{VersionedManifest}
 use Rattle.slate_store.specs.declared.reader_modes.DbReaderMode.TheVariants.{ManagedCheckpoint}
 use Rattle.slate_store.specs.declared.refusals.StoreRefusal.TheVariants as refusals
-use Rattle.slate_store.specs.Checkpoints.{Plan, found, to_write}
+use Rattle.slate_store.specs.Calls.{WhereModelled}
+use Rattle.slate_store.specs.Checkpoints.{Plan, found, to_refresh, to_write}
 use Rattle.slate_store.specs.Content.{IsSound, content}
-use Rattle.slate_store.specs.Objects.{Objects, PutManifest, changed, is_present, latest_manifest}
-use Rattle.slate_store.specs.Refusals.{planned}
+use Rattle.slate_store.specs.Objects.{Objects, PutManifest, changed, is_present, last_log, latest_manifest}
+use Rattle.slate_store.specs.Refusals.{checkpoint_changes, planned}
 use Rattle.slate_replay.specs.Replay.{Replays, line_of}
 use Rattle.slate_replay.specs.declared.replays.Replayed.{Replayed}
 use Rattle.slate_replay.specs.declared.replays.Replayed.TheVariants.{Whole}
 use Rattle.slate_errors.specs.declared.errors.SlateError.{SlateError}
 use Rattle.slate_errors.specs.declared.errors.SlateError.TheVariants as errors
 use Rattle.slate_model.specs.Changes.{PartMade, after_part}
+use Rattle.slate_model.specs.Follow.{come_by}
 use Rattle.slate_model.specs.Follower.{Follower, number, rebuilt}
 use Rattle.slate_model.specs.Followed.{last_read}
-use Rattle.slate_model.specs.Lease.{differs, is_due, leased, renews_taken, to_keep}
-use Rattle.slate_model.specs.Managed.{IsOpenAt, follower_under, poll_result}
+use Rattle.slate_model.specs.Lease.{differs, is_due, leased, renews_taken, to_keep, to_take}
+use Rattle.slate_model.specs.Managed.{IsOpenAt, Keeps, KeepsOrNot, PutsPlanned, PutsRenewal, follower_under, poll_result}
 use Rattle.slate_model.specs.Segments.{Extractor}
-use Rattle.slate_model.specs.Stores.{Stands, kept_seen}
+use Rattle.slate_model.specs.Stores.{Stands, by_objects, kept_seen}
 use Rattle.slate_model.specs.declared.answers.PollAnswer.{PollAnswer}
 use Rattle.slate_model.specs.declared.leases.Lease.{Lease}
 use Rattle.slate_follow.specs.declared.keeps.Kept.{Kept}
-use Rattle.slate_follow.specs.Rebuilding.{Builds, GoingLacks, Lacks, Reaches, TakesUnder, TakingLacks, followed, last_above, new_logs, reached}
+use Rattle.slate_follow.specs.Lagging.{IsLastTaken}
+use Rattle.slate_follow.specs.Rebuilding.{Builds, GoingLacks, Lacks, Reaches, TakesUnder, TakingLacks, followed, new_logs, reached}
 
 -- the latest manifest, or why it wasn't read
 abbrev pub FindsLatest : Objects → Result VersionedManifest SlateError → Type 0
@@ -108,10 +111,10 @@ pub record PutsBy {A : Type 0} (refused : Objects → SlateError → Type 0) (pl
   pub leased : LeaseBy plan old result made lease
 
 -- A reader takes its view and its batches anew from a manifest, which its plan put.
-pub record BuildsLatest (plan : Plan Lease) (skips : Bool) (objects : Objects) (follower : Follower) (answer : PollAnswer) : Type 0 where
+pub record BuildsLatest (plan : Plan Lease) (skips : Bool) (lag : ℕ) (objects : Objects) (follower : Follower) (answer : PollAnswer) : Type 0 where
   pub given : Lease
   pub puts : plan ≡ Ok (Some follower.view, given)
-  pub builds : Builds objects ManagedCheckpoint skips follower.view (last_read ManagedCheckpoint skips follower.view objects) (follower_under follower.view follower) answer
+  pub builds : Builds objects ManagedCheckpoint skips lag follower.view (last_read ManagedCheckpoint skips follower.view objects) (follower_under follower.view follower) answer
 
 -- or takes what log files have under it
 pub record TakesLatest (plan : Plan Lease) (old : Follower) (objects : Objects) (follower : Follower) (answer : PollAnswer) : Type 0 where
@@ -124,12 +127,12 @@ abbrev pub IsNews : Objects → Follower → (latest : VersionedManifest) → (s
 IsNews objects follower latest true added found mark =
     (added ≡ []) × (found ≡ Whole) × (mark ≡ latest.manifest.replay_after_wal_id)
 IsNews objects follower latest false added found mark =
-    let last = last_above follower latest objects in
-    Replays (max follower.mark latest.manifest.replay_after_wal_id) last (number follower) [] added objects (Ok found) × (mark ≡ reached found last)
+    let from = max follower.mark latest.manifest.replay_after_wal_id in
+    (last : ℕ) × IsLastTaken follower.lag (number follower) from objects last × Replays from last (number follower) [] added objects (Ok found) × (mark ≡ reached found last)
 
 -- the follower that has these, and goes by its view: one that skips log files has the tables alone
 abbrev pub informed : Follower → (skips : Bool) → List Batch → (mark : ℕ) → Follower
-informed old true added mark = rebuilt old.mode old.skips old.view (line_of old.view.manifest.last_l0_seq []) mark
+informed old true added mark = rebuilt old.mode old.skips old.lag old.view (line_of old.view.manifest.last_l0_seq []) mark
 informed old false added mark = followed old old.view added mark
 
 -- the errors of what a poll takes: those of a replay, and that a key has no segment
@@ -143,21 +146,35 @@ IsOfPolling error = ⊥
 abbrev pub NewsLacks : Option Extractor → Follower → (latest : VersionedManifest) → Objects → Type 0
 NewsLacks extractor follower latest objects =
     (key : List ℕ) × (added : List Batch) × (found : Replayed) × (follower.skips ≡ false)
-    × Replays (max follower.mark latest.manifest.replay_after_wal_id) (last_above follower latest objects) (number follower) [] added objects (Ok found)
+    × (last : ℕ) × IsLastTaken follower.lag (number follower) (max follower.mark latest.manifest.replay_after_wal_id) objects last
+    × Replays (max follower.mark latest.manifest.replay_after_wal_id) last (number follower) [] added objects (Ok found)
     × Lacks extractor (batches_above follower.view.manifest.last_l0_seq (follower.line.batches ++ added)) key
+
+-- A reader is at the number where it was, with no mark past the latest replay mark but its own, or at the end of what is stored, which
+-- it would have lagged behind further than it may.
+abbrev pub HasCome : (old from : Follower) → Objects → Type 0
+HasCome old from objects =
+    (latest : VersionedManifest) × (latest_manifest objects ≡ Some latest)
+    × (((number from ≡ number old) × ((from.mark ≡ old.mark) ⊎ (from.mark ≡ max old.mark latest.manifest.replay_after_wal_id)))
+    ⊎ ((number from ≡ end (content objects)) × (from.mark ≡ last_log latest.manifest.replay_after_wal_id objects) × ((old.lag ≡ 0) ⊎ (come_by old latest + old.lag < end (content objects)))))
 
 -- A reader has come on from what it was: in the mode that keeps a checkpoint, and where it reads log files it has seen them up to its
 -- mark, as it had before.
 pub record ComesFrom (old from : Follower) (objects : Objects) : Type 0 where
-  pub mode : from.mode ≡ ManagedCheckpoint
+  pub managed : old.mode ≡ ManagedCheckpoint
+  pub mode : from.mode ≡ old.mode
   pub skips : from.skips ≡ old.skips
+  pub lag : from.lag ≡ old.lag
+  pub view : from.view ≡ old.view
+  pub came : from.skips ≡ false → IsSound objects → kept_seen old objects (content objects) → HasCome old from objects
   pub seen : from.skips ≡ false → IsSound objects → kept_seen old objects (content objects) → kept_seen from objects (content objects)
 
 -- so has what it takes that goes on by the latest manifest
 abbrev pub OnLacks : Option Extractor → Follower → (latest : VersionedManifest) → Objects → Type 0
 OnLacks extractor follower latest objects =
     (follower.mode ≡ ManagedCheckpoint) × (follower.skips ≡ false) × Reaches follower latest
-    × ((key : List ℕ) × GoingLacks extractor objects latest (last_above follower latest objects) follower key)
+    × (last : ℕ) × IsLastTaken follower.lag (number follower) (max follower.mark latest.manifest.replay_after_wal_id) objects last
+    × ((key : List ℕ) × GoingLacks extractor objects latest last follower key)
 
 -- a key of what a reader takes under the manifest that a plan puts has no segment
 abbrev pub NextLacks : Option Extractor → Plan Lease → Follower → Objects → Type 0
@@ -186,12 +203,36 @@ MovesBy moved old objects = (latest : VersionedManifest) → latest_manifest obj
 abbrev pub HasTaken : Follower → Type 0
 HasTaken follower = IfSome follower.lease (λ lease. IsSome (found lease.id follower.view))
 
--- What an error of a poll leaves of a reader: what it was, but for its lease, or what a round made of it that answered; the error
--- is recorded.
-abbrev pub LeftBy : SlateError → (old new : Follower) → Type 0
-LeftBy error old new =
-    (new ≡ record old { lease = new.lease; result = poll_result error })
-    ⊎ ((middle : Follower) × (answer : PollAnswer) × IsOpenAt old.skips middle answer × (new ≡ record middle { result = poll_result error }))
+-- ---- what an error of a poll at a moment leaves of a reader, with any extractor, lawful or not; the error is recorded
+-- A round failed: the reader is what it was, but for its lease. Over a store that is modelled, so many of the changes of its plan were
+-- made, and it has the old lease, or the one that was committed.
+pub record FailsRound (moment : ℤ) (old : Follower) (before : Option Objects) (error : SlateError) (new : Follower) (after : Option Objects) : Type 0 where
+  pub lease : Lease
+  pub held : old.lease ≡ Some lease
+  pub puts : WhereModelled (λ o o'. (made : ℕ) × PutsPlanned {B = PollAnswer} Stands MayLack (to_keep old.view lease moment) o (Err error) made o'
+      × KeepsOrNot (to_keep old.view lease moment) made old o new) before after
+  pub becomes : new ≡ record old { lease = new.lease; result = poll_result error }
+
+-- A round answered, and the reader goes by the manifest that it put for a view that differed; then the renewal failed of the lease that
+-- it took, which is due at once.
+pub record FailsRenewal (moment : ℤ) (old : Follower) (before : Option Objects) (error : SlateError) (new : Follower) (after : Option Objects) : Type 0 where
+  pub lease : Lease
+  pub held : old.lease ≡ Some lease
+  pub middle : Follower
+  pub answer : PollAnswer
+  pub between : Option Objects
+  pub opened : IsOpenAt old.skips old.lag middle answer
+  pub moved : IfSome before (MovesBy true old)
+  pub keeps : WhereModelled (λ o o'. Keeps (by_objects before) lease moment old o middle answer o') before between
+  pub taken : Lease
+  pub leased : middle.lease ≡ Some taken
+  pub there : IsSome (found taken.id middle.view)
+  pub due : is_due moment taken ≡ true
+  pub puts : WhereModelled (λ o o'. (made : ℕ) × PutsRenewal {A = Unit {0}} Stands (to_refresh taken.id taken.lifetime moment middle.view) o (Err error) made o') between after
+  pub becomes : new ≡ record middle { result = poll_result error }
+
+abbrev pub LeftBy : (moment : ℤ) → (old : Follower) → (before : Option Objects) → SlateError → (new : Follower) → (after : Option Objects) → Type 0
+LeftBy moment old before error new after = FailsRound moment old before error new after ⊎ FailsRenewal moment old before error new after
 
 -- ---- calls
 -- How often a round of a poll of a reader that keeps a checkpoint calls a store, where log files are to be read so often: it reads the latest
@@ -212,3 +253,11 @@ abbrev pub CallsKeeping : Objects → Follower → Lease → (moment : ℤ) → 
 CallsKeeping objects old lease moment calls calls' =
     (latest : VersionedManifest) → latest_manifest objects ≡ Some latest →
     calls' ≤ calls + calls_to_keep old.view lease moment latest (new_logs old latest objects) + (if renews_taken old.view lease moment latest then 1 else 0)
+
+-- How often an opening that takes a lease called a store, where the latest manifest refuses it: once, and twice before that for each
+-- time that another manifest was put first. Over a store that is modelled that comes only where one is stored under the next id.
+pub record CallsRefused (lifetime : ℕ) (moment : ℤ) (objects : Option Objects) (calls calls' : ℕ) : Type 0 where
+  pub overtaken : ℕ
+  pub few : overtaken < 8
+  pub most : calls' ≤ calls + 2 * overtaken + 1
+  pub stands : 0 < overtaken → IfSome objects (λ o. Stands (checkpoint_changes (to_take lifetime moment) o) o)

@@ -12,6 +12,7 @@ follower_of a =
     record {
       mode = a.following.mode;
       skips = a.following.skips;
+      lag = a.following.lag;
       view = a.status.manifest;
       line = record { floor = a.status.manifest.manifest.last_l0_seq; batches = joined a.kept.items };
       segments = a.segments;
@@ -36,7 +37,7 @@ pub record IsKept (a : Inside) : Type 0 where
 
 -- the follower that what was built makes
 abbrev pub rebuilt_follower : Rebuilt → Follower
-rebuilt_follower a = record (rebuilt a.following.mode a.following.skips a.view (record { floor = a.view.manifest.last_l0_seq; batches = a.memory }) a.mark) { segments = a.segments }
+rebuilt_follower a = record (rebuilt a.following.mode a.following.skips a.following.lag a.view (record { floor = a.view.manifest.last_l0_seq; batches = a.memory }) a.mark) { segments = a.segments }
 
 -- its batches are numbered from the last number in tables on
 pub record IsRebuilt (a : Rebuilt) : Type 0 where

@@ -5,7 +5,7 @@ use Rattle.slate_store.specs.declared.objects.VersionedManifest.{VersionedManife
 use Rattle.slate_store.specs.Objects.{Objects, ObjectsOf, entry_at, last_log, latest_manifest, log_at}
 use Rattle.slate_errors.specs.declared.errors.SlateError.{SlateError}
 use Rattle.slate_errors.specs.declared.errors.SlateError.TheVariants as errors
-use Rattle.slate_model.specs.Begun.{AsksLast, Begun, Puts, ReadsAgain, ReadsLatest, ReadsLog, Stage, begun_at, first_of, no_step, reached_number}
+use Rattle.slate_model.specs.Begun.{AsksLast, Begun, LooksAt, Puts, ReadsAgain, ReadsLatest, ReadsLog, Stage, begun_at, first_of, no_step, reached_number}
 use Rattle.slate_model.specs.Follower.{Follower}
 use Rattle.slate_model.specs.Seen.{HasSeen}
 use Rattle.slate_model.specs.Stood.{IsPlanned, WasLatest}
@@ -13,6 +13,7 @@ use Rattle.slate_model.specs.declared.answers.PollAnswer.{PollAnswer}
 use Rattle.slate_model.specs.declared.answers.PollAnswer.TheVariants.{Truncated}
 use Rattle.slate_model.specs.declared.polls.FirstRead.{FirstRead}
 use Rattle.slate_model.specs.declared.polls.PollHistory.{PollHistory}
+use Rattle.slate_follow.specs.Lagging.{readings}
 
 -- ---- the latest manifest
 -- A manifest is the one that was the latest at the first step, or came after it: neither its last number in tables nor its replay mark
@@ -45,20 +46,26 @@ pub record OthersAct (objects objects' : Objects) : Type 0 where
 abbrev pub most_logs : FirstRead → PollHistory → ℕ
 most_logs first history = history.last_log - first.replay_after_wal_id
 
+-- and how many steps it makes for that: one more for each log file where a reader may lag, to look at it
+abbrev pub most_readings : (lag : ℕ) → FirstRead → PollHistory → ℕ
+most_readings lag first history = readings lag (most_logs first history)
+
 -- how many steps answer None at most from one overtaken put to the next: two replays of so many log files, and eight calls more
-abbrev pub most_steps : FirstRead → PollHistory → ℕ
-most_steps first history = 2 * most_logs first history + 8
+abbrev pub most_steps : (lag : ℕ) → FirstRead → PollHistory → ℕ
+most_steps lag first history = 2 * most_readings lag first history + 8
 
 -- how many did at most since the last one, by the call that comes next
-abbrev pub steps_since : Stage → FirstRead → Begun → ℕ
-steps_since (Puts next given replaces) first begun = if begun.asked then 4 + most_logs first begun.history else 1
-steps_since AsksLast first begun = if begun.asked then 5 + most_logs first begun.history else 2
-steps_since (ReadsLog last) first begun = (if begun.asked then 6 + most_logs first begun.history else 3) + (begun.mark - first.replay_after_wal_id)
-steps_since ReadsAgain first begun = if begun.asked then 6 + most_logs first begun.history else 3
-steps_since stage first begun = 0
+abbrev pub steps_since : (lag : ℕ) → Stage → FirstRead → Begun → ℕ
+steps_since lag (Puts next given replaces) first begun = if begun.asked then 4 + most_readings lag first begun.history else 1
+steps_since lag AsksLast first begun = if begun.asked then 5 + most_readings lag first begun.history else 2
+steps_since lag (LooksAt id last) first begun = (if begun.asked then 6 + most_readings lag first begun.history else 3) + (last - id)
+steps_since lag (ReadsLog last) first begun =
+    (if begun.asked then 6 + most_readings lag first begun.history else 3) + (most_readings lag first begun.history - most_logs first begun.history) + (begun.mark - first.replay_after_wal_id)
+steps_since lag ReadsAgain first begun = if begun.asked then 6 + most_readings lag first begun.history else 3
+steps_since lag stage first begun = 0
 
-abbrev pub IsPaced : FirstRead → Begun → Type 0
-IsPaced first begun = begun.history.steps ≤ begun.overtaken * most_steps first begun.history + steps_since begun.stage first begun
+abbrev pub IsPaced : (lag : ℕ) → FirstRead → Begun → Type 0
+IsPaced lag first begun = begun.history.steps ≤ begun.overtaken * most_steps lag first begun.history + steps_since lag begun.stage first begun
 
 -- ---- a begun poll
 -- a reader with the number and the mark that its begun poll has come to, and one with those of a manifest
@@ -74,20 +81,22 @@ WasRead first objects reader manifest = WasLatest objects manifest × IsSince fi
 
 -- By the call that comes next: what is put is planned after the manifest that was read or put last; no log file is to be read that was
 -- in tables at the first step; and the last one to be read is there, unless a table was put since.
-abbrev pub LastsAt : Stage → FirstRead → Objects → Begun → Type 0
-LastsAt (Puts next given replaces) first objects begun = (last : VersionedManifest) × (begun.latest ≡ Some last) × IsPlanned last next
-LastsAt AsksLast first objects begun = first.replay_after_wal_id ≤ begun.mark
-LastsAt (ReadsLog last) first objects begun =
+abbrev pub LastsAt : (lag : ℕ) → Stage → FirstRead → Objects → Begun → Type 0
+LastsAt lag (Puts next given replaces) first objects begun = (last : VersionedManifest) × (begun.latest ≡ Some last) × IsPlanned last next
+LastsAt lag AsksLast first objects begun = first.replay_after_wal_id ≤ begun.mark
+LastsAt lag (LooksAt id last) first objects begun =
+    (0 < lag) × (first.replay_after_wal_id ≤ begun.mark) × (begun.mark < id) × (id ≤ last) × (last ≤ begun.history.last_log) × (TablesStay first objects → log_at last objects ≢ None)
+LastsAt lag (ReadsLog last) first objects begun =
     (first.replay_after_wal_id ≤ begun.mark) × (begun.mark < last) × (last ≤ begun.history.last_log) × (TablesStay first objects → log_at last objects ≢ None)
-LastsAt ReadsAgain first objects begun = first.replay_after_wal_id ≤ begun.mark
-LastsAt stage first objects begun = Unit {0}
+LastsAt lag ReadsAgain first objects begun = first.replay_after_wal_id ≤ begun.mark
+LastsAt lag stage first objects begun = Unit {0}
 
 -- after its first step
 pub record LastsSince (first : FirstRead) (objects : Objects) (reader : Follower) (begun : Begun) : Type 0 where
   pub since : (latest : VersionedManifest) → latest_manifest objects ≡ Some latest → IsSince first latest
   pub read : (manifest : VersionedManifest) → begun.latest ≡ Some manifest → WasRead first objects reader manifest
-  pub next : LastsAt begun.stage first objects begun
-  pub paced : IsPaced first begun
+  pub next : LastsAt reader.lag begun.stage first objects begun
+  pub paced : IsPaced reader.lag first begun
 
 -- What is kept of a begun poll between its calls: there is a manifest, the log files up to its mark are seen, and after its first step the latest manifest
 -- came after the one that it read.
@@ -98,8 +107,8 @@ pub record Lasts (objects : Objects) (reader : Follower) (begun : Begun) : Type 
   pub since : MatchOption begun.history.first ((begun.stage ≡ ReadsLatest) × (begun.history.steps ≡ 0)) (λ first. LastsSince first objects reader begun)
 
 -- The steps that it has made are fewer than its overtaken puts and one, times that bound.
-abbrev pub IsFew : Begun → Type 0
-IsFew begun = MatchOption begun.history.first (begun.history.steps ≡ 0) (λ first. begun.history.steps < (begun.overtaken + 1) * most_steps first begun.history)
+abbrev pub IsFew : (lag : ℕ) → Begun → Type 0
+IsFew lag begun = MatchOption begun.history.first (begun.history.steps ≡ 0) (λ first. begun.history.steps < (begun.overtaken + 1) * most_steps lag first begun.history)
 
 -- A step that answers None leaves it so. Truncated comes only where a table was put since the first step.
 abbrev pub LastsOn : Objects → Option Objects → Begun → Result (Option PollAnswer) SlateError → Follower → Begun → Type 0

@@ -6,6 +6,7 @@ pub mod Growing
 pub mod Joined
 pub mod Keeping
 pub mod Kept
+pub mod Lagging
 pub mod Lasting
 pub mod Publishing
 pub mod Rebuilding

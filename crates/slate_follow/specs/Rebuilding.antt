@@ -1,5 +1,5 @@
 -- What a follower finds of the latest manifest and its log files.
-use Rattle.std.specs.Prelude.{◌≡◌, ℕ, ◌+◌, ◌-◌, ◌≤◌, ◌⊎◌, ◌&&◌, max, nat_le, not, if◌then◌else◌, Bool, List, [], ◌++◌, true, false, Option, None, Some, Result, Ok, Err, IfOk}
+use Rattle.std.specs.Prelude.{◌≡◌, ℕ, ◌+◌, ◌-◌, ◌<◌, ◌≤◌, ◌⊎◌, ◌&&◌, max, nat_le, not, if◌then◌else◌, Bool, List, [], ◌++◌, true, false, Option, None, Some, Result, Ok, Err, IfOk}
 use Rattle.slate_types.specs.declared.batches.Batch.{Batch}
 use Rattle.slate_types.specs.Line.{batches_above}
 use Rattle.slate_store.specs.declared.objects.VersionedManifest.{VersionedManifest}
@@ -22,6 +22,7 @@ use Rattle.slate_model.specs.Segments.{Extractor, ops_of, unsegmented_refusal}
 use Rattle.slate_model.specs.Stores.{Unpinned}
 use Rattle.slate_model.specs.declared.answers.PollAnswer.{PollAnswer}
 use Rattle.slate_model.specs.declared.answers.PollAnswer.TheVariants.{Whole, Truncated}
+use Rattle.slate_follow.specs.Lagging.{IsLastRead, IsLastTaken, MayWait, readings}
 
 -- how a poll answers that replayed so, and sees the batches up to this number
 abbrev pub answer_of : Replayed → ℕ → PollAnswer
@@ -48,12 +49,20 @@ abbrev pub HasLogs : Objects → Follower → PollAnswer → Type 0
 HasLogs objects follower (Whole at) = GiveBatches objects follower replays.Whole × (follower.mark ≡ last_of objects follower)
 HasLogs objects follower (Truncated at) = (id : ℕ) × GiveBatches objects follower (replays.Truncated id) × (follower.mark ≡ id - 1)
 
+-- a poll left the log files of the manifest, and the follower has its tables alone
+pub record WaitsWithTables (objects : Objects) (follower : Follower) (answer : PollAnswer) : Type 0 where
+  pub none : follower.line.batches ≡ []
+  pub mark : follower.mark ≡ follower.view.manifest.replay_after_wal_id
+  pub may : 0 < follower.lag
+  pub waits : MayWait follower.lag follower.view.manifest.last_l0_seq follower.view.manifest.replay_after_wal_id objects
+  pub answers : answer ≡ Whole (number follower)
+
 -- What a follower replayed of objects, sound or not: it can go by its manifest, and the log files of that are whole, or
--- truncated at one of them.
+-- truncated at one of them, or were left.
 pub record ReplaysView (opening : Bool) (objects : Objects) (follower : Follower) (answer : PollAnswer) : Type 0 where
   pub view : IsView follower.mode opening objects follower.view
   pub floor : follower.line.floor ≡ follower.view.manifest.last_l0_seq
-  pub logs : HasLogs objects follower answer
+  pub logs : HasLogs objects follower answer ⊎ ((opening ≡ false) × WaitsWithTables objects follower answer)
 
 -- the tables of a manifest end no earlier than those of a follower's view, and no later than its batches
 abbrev pub Reaches : Follower → VersionedManifest → Type 0
@@ -73,8 +82,8 @@ last_above follower view objects = last_log (max follower.mark view.manifest.rep
 -- how many log files a follower reads at most under a manifest: those that it hasn't replayed yet, where it goes on by it
 abbrev pub new_logs : Follower → VersionedManifest → Objects → ℕ
 new_logs follower view objects =
-    if goes_on follower view then last_above follower view objects - max follower.mark view.manifest.replay_after_wal_id
-    else read_logs follower.mode follower.skips objects (Some view)
+    readings follower.lag (if goes_on follower view then last_above follower view objects - max follower.mark view.manifest.replay_after_wal_id
+    else read_logs follower.mode follower.skips objects (Some view))
 
 -- a follower without its lease
 abbrev pub unleased : Follower → Follower
@@ -83,7 +92,7 @@ unleased follower = record follower { lease = None }
 -- the follower that goes on by a manifest, with these batches after its own, and without those that are in tables
 abbrev pub followed : Follower → VersionedManifest → List Batch → (mark : ℕ) → Follower
 followed old view added mark = let tabled = view.manifest.last_l0_seq in
-    rebuilt old.mode old.skips view (line_of tabled (batches_above tabled (old.line.batches ++ added))) mark
+    rebuilt old.mode old.skips old.lag view (line_of tabled (batches_above tabled (old.line.batches ++ added))) mark
 
 -- A follower goes on by a manifest: to its batches it adds those that the log files up to the last one give which it
 -- hasn't replayed yet.
@@ -99,22 +108,25 @@ pub record GoesOn (objects : Objects) (view : VersionedManifest) (last : ℕ) (o
 pub record Continues (objects : Objects) (old follower : Follower) (answer : PollAnswer) : Type 0 where
   pub view : IsView old.mode false objects follower.view
   pub reaches : Reaches old follower.view
-  pub goes : GoesOn objects follower.view (last_above old follower.view objects) old follower answer
+  pub last : ℕ
+  pub taken : IsLastTaken old.lag (number old) (max old.mark follower.view.manifest.replay_after_wal_id) objects last
+  pub goes : GoesOn objects follower.view last old follower answer
 
 -- the log files of a manifest up to the last one make this follower, in the mode that was asked for
-pub record Builds (objects : Objects) (mode : DbReaderMode) (skips : Bool) (view : VersionedManifest) (last : ℕ) (follower : Follower) (answer : PollAnswer) : Type 0 where
+pub record Builds (objects : Objects) (mode : DbReaderMode) (skips : Bool) (lag : ℕ) (view : VersionedManifest) (last : ℕ) (follower : Follower) (answer : PollAnswer) : Type 0 where
   pub batches : List Batch
   pub found : Replayed
   pub logs : Replays view.manifest.replay_after_wal_id last view.manifest.last_l0_seq [] batches objects (Ok found)
-  pub becomes : unsegmented follower ≡ rebuilt mode skips view (line_of view.manifest.last_l0_seq batches) (reached found last)
+  pub becomes : unsegmented follower ≡ rebuilt mode skips lag view (line_of view.manifest.last_l0_seq batches) (reached found last)
   pub answers : answer ≡ answer_of found (number follower)
 
 -- A follower takes what log files have under a manifest: it goes on by that where its batches lead up to the tables, and else it is
 -- built anew.
 abbrev pub TakesUnder : Objects → VersionedManifest → (old follower : Follower) → PollAnswer → Type 0
 TakesUnder objects view old follower answer =
-    ((old.skips ≡ false) × Reaches old view × GoesOn objects view (last_above old view objects) old follower answer)
-    ⊎ Builds objects old.mode old.skips view (last_read old.mode old.skips view objects) follower answer
+    ((old.skips ≡ false) × Reaches old view × (last : ℕ) × IsLastTaken old.lag (number old) (max old.mark view.manifest.replay_after_wal_id) objects last
+    × GoesOn objects view last old follower answer)
+    ⊎ ((goes_on old view ≡ false) × (last : ℕ) × IsLastRead old view objects last × Builds objects old.mode old.skips old.lag view last follower answer)
 
 -- the manifest that a follower goes by, and the last log file that it reads, where it finds these
 abbrev pub FindsView : DbReaderMode → Bool → (opening : Bool) → Objects → Result (VersionedManifest × ℕ) SlateError → Type 0
@@ -167,8 +179,9 @@ GoingLacks extractor objects view last old key =
 -- and what takes that under a manifest
 abbrev pub TakingLacks : Option Extractor → Objects → (view : VersionedManifest) → Follower → Type 0
 TakingLacks extractor objects view old =
-    ((old.skips ≡ false) × Reaches old view × ((key : List ℕ) × GoingLacks extractor objects view (last_above old view objects) old key))
-    ⊎ ((key : List ℕ) × BuildLacks extractor objects view (last_read old.mode old.skips view objects) key)
+    ((old.skips ≡ false) × Reaches old view × (last : ℕ) × IsLastTaken old.lag (number old) (max old.mark view.manifest.replay_after_wal_id) objects last
+    × ((key : List ℕ) × GoingLacks extractor objects view last old key))
+    ⊎ ((goes_on old view ≡ false) × (last : ℕ) × IsLastRead old view objects last × ((key : List ℕ) × BuildLacks extractor objects view last key))
 
 -- log files are truncated at one of them, and a mark is before that
 pub record BreakOff (objects : Objects) (mark : ℕ) : Type 0 where
@@ -220,8 +233,8 @@ abbrev pub CallsOpening : DbReaderMode → Bool → Objects → (calls calls' : 
 CallsOpening mode skips objects calls calls' = calls' ≤ calls + 2 + followed_logs mode skips objects
 
 -- and how often a poll
-abbrev pub CallsRebuilding : Objects → (calls calls' : ℕ) → Type 0
-CallsRebuilding objects calls calls' = calls' ≤ calls + 2 + replayed_logs objects
+abbrev pub CallsRebuilding : Objects → (lag : ℕ) → (calls calls' : ℕ) → Type 0
+CallsRebuilding objects lag calls calls' = calls' ≤ calls + 2 + readings lag (replayed_logs objects)
 
 -- How often a poll that follows the latest manifest calls a store at most, where it answers Ok: it reads that and asks for the last
 -- log file, and reads those alone that it doesn't have, while its batches lead up to the manifest's tables.

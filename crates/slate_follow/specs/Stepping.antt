@@ -5,13 +5,13 @@ use Rattle.slate_types.specs.declared.store_errors.StoreFault.TheVariants.{Unava
 use Rattle.slate_store.specs.declared.objects.VersionedManifest.{VersionedManifest}
 use Rattle.slate_store.specs.declared.reader_modes.DbReaderMode.{DbReaderMode}
 use Rattle.slate_store.specs.Calls.{WhereModelled}
-use Rattle.slate_store.specs.Objects.{Objects, PutManifest, changed, is_present, last_log, latest_manifest}
+use Rattle.slate_store.specs.Objects.{Objects, PutManifest, changed, is_present, last_log, latest_manifest, log_at}
 use Rattle.slate_replay.specs.Replay.{ReplaysNext}
 use Rattle.slate_replay.specs.declared.replays.Replayed.{Replayed}
 use Rattle.slate_replay.specs.declared.replays.Replayed.TheVariants as replays
 use Rattle.slate_errors.specs.declared.errors.SlateError.{SlateError}
 use Rattle.slate_errors.specs.declared.errors.SlateError.TheVariants as errors
-use Rattle.slate_model.specs.Begun.{Begun, Stage, ReadsLatest, Puts, AsksLast, ReadsLog, ReadsAgain, Ended, Turn, Goes, Ends, Breaks, Fails, arrived, asked_last, base_of, committed, cut_short, decided, kept_batches, noted, overtaken_by, reached_number, read_again, read_log, taken, view_of}
+use Rattle.slate_model.specs.Begun.{Begun, Stage, ReadsLatest, Puts, AsksLast, LooksAt, ReadsLog, ReadsAgain, Ended, Turn, Goes, Ends, Breaks, Fails, arrived, asked_last, base_of, committed, cut_short, decided, kept_batches, looked_at, noted, overtaken_by, reached_number, read_again, read_log, taken, view_of}
 use Rattle.slate_model.specs.Follower.{Follower, is_managed, number, unsegmented}
 use Rattle.slate_model.specs.Managed.{poll_result}
 use Rattle.slate_model.specs.Segments.{Extractor}
@@ -64,6 +64,11 @@ abbrev pub log_turn : Replayed → (latest : VersionedManifest) → (last : ℕ)
 log_turn replays.Whole latest last fresh begun = read_log latest last fresh begun
 log_turn (replays.Truncated id) latest last fresh begun = cut_short fresh begun
 
+-- where a log file was looked at, or wasn't there
+abbrev pub LooksTo : Follower → (latest : VersionedManifest) → (id last : ℕ) → Begun → Option (List Batch) → Turn → Type 0
+LooksTo reader latest id last begun (Some batches) turn = turn ≡ looked_at reader latest id last batches begun
+LooksTo reader latest id last begun None turn = turn ≡ Breaks (record begun { stage = Ended })
+
 -- What a call of a begun poll finds in the objects, the turn that it leads to, and what it leaves of them. The poll is the one whose
 -- call is being made.
 abbrev pub MeetsAt : Stage → Follower → Begun → Objects → Turn → Objects → Type 0
@@ -73,7 +78,9 @@ MeetsAt (Puts next given replaces) reader begun objects turn objects' =
     ((is_present (PutManifest next.id next.manifest) objects ≡ false) × (turn ≡ committed reader next given replaces begun)
     × (objects' ≡ changed (PutManifest next.id next.manifest) objects))
     ⊎ ((is_present (PutManifest next.id next.manifest) objects ≡ true) × (turn ≡ overtaken_by reader begun) × (objects' ≡ objects))
-MeetsAt AsksLast reader begun objects turn objects' = (turn ≡ Goes (asked_last (last_log begun.mark objects) begun)) × (objects' ≡ objects)
+MeetsAt AsksLast reader begun objects turn objects' = (turn ≡ Goes (asked_last reader (last_log begun.mark objects) begun)) × (objects' ≡ objects)
+MeetsAt (LooksAt id last) reader begun objects turn objects' =
+    (latest : VersionedManifest) × (begun.latest ≡ Some latest) × LooksTo reader latest id last begun (log_at id objects) turn × (objects' ≡ objects)
 MeetsAt (ReadsLog last) reader begun objects turn objects' =
     (latest : VersionedManifest) × (fresh : List Batch) × (found : Replayed) × (begun.latest ≡ Some latest)
     × ReplaysNext (begun.mark + 1) begun.floor begun.fresh fresh objects (Ok found) × (turn ≡ log_turn found latest last fresh begun) × (objects' ≡ objects)

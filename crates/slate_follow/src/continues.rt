@@ -1,18 +1,20 @@
 // Taking what log files have that a reader hasn't replayed yet.
-ghost use Rattle.std.specs.Prelude.{◌≡◌, ◌⊎◌, ◌+◌, ◌-◌, ◌<◌, ◌≤◌, ◌^◌, ◌++◌, ℕ, List, Option, None, Err, OnOk, OnErr, false, true, max, length, take, IfOk, IfErr, IfSome, IsSome};
+ghost use Rattle.std.specs.Prelude.{◌≡◌, ◌⊎◌, ◌+◌, ◌-◌, ◌<◌, ◌≤◌, ◌^◌, ◌++◌, ℕ, List, Option, None, Some, Err, OnOk, OnErr, false, true, max, length, take, IfOk, IfErr, IfSome, IsSome};
 ghost use Rattle.std.specs.Option.{option_copied};
 ghost use Rattle.slate_types.specs.declared.batches.Batch.{Batch};
 ghost use Rattle.slate_types.specs.Line.{batches_above};
 ghost use Rattle.slate_model.specs.Follow.{AnswersAt};
+ghost use Rattle.slate_model.specs.Followed.{read_logs};
 ghost use Rattle.slate_model.specs.Follower.{HasSegments, is_pinned, number};
 ghost use Rattle.slate_model.specs.Known.{CountsFaults};
 ghost use Rattle.slate_model.specs.Segments.{Extractor, IsExtractor, segments_of};
 ghost use Rattle.slate_segments.specs.Refusals.{IsOfSegment};
 ghost use Rattle.slate_replay.specs.Replay.{line_of};
 ghost use Rattle.slate_follow.specs.Growing.{ExtendingLacks, Grew};
-ghost use Rattle.slate_follow.specs.Rebuilding.{GoesOn, GoingLacks, IsOfRebuilding, Lacks, Reaches, TakesUnder, TakingLacks, goes_on, last_above, new_logs, unleased};
+ghost use Rattle.slate_follow.specs.Rebuilding.{GoesOn, GoingLacks, IsOfRebuilding, IsOfReplay, Lacks, Reaches, TakesUnder, TakingLacks, goes_on, last_above, new_logs, unleased};
+ghost use Rattle.slate_follow.specs.Lagging.{IsLastRead, IsLastTaken, readings};
 
-use crate::rebuilds::{answer_of, last_above, last_read, reached, rebuild};
+use crate::rebuilds::{answer_of, last_above, last_taken, reached, rebuild};
 use crate::segments::segments_above;
 use crate::tables::{append_logs, drop_through, truncate};
 use crate::{FollowerState, PollAnswer};
@@ -51,7 +53,7 @@ impl FollowerState {
         ensures faults { CountsFaults (S.faults store.old) (S.faults store.new) result }
         ensures kept { S.objects store.new ≡ S.objects store.old }
         ensures taken { IfOk result (λ answer. IfSome (S.objects store.old) (λ o. TakesUnder o view self.old (unleased self.new) answer)) }
-        ensures asked { IfOk result (λ answer. (self.new.mode ≡ self.old.mode) × (self.new.skips ≡ self.old.skips) × (self.new.lease ≡ self.old.lease)
+        ensures asked { IfOk result (λ answer. (self.new.mode ≡ self.old.mode) × (self.new.skips ≡ self.old.skips) × (self.new.lag ≡ self.old.lag) × (self.new.lease ≡ self.old.lease)
             × (self.new.result ≡ None) × (self.new.view ≡ view) × AnswersAt (number self.new) answer) }
         ensures failed { OnErr result (self.new ≡ self.old) }
         ensures segments { (x : Option Extractor) → IsExtractor E.may_name E.may_extract (option_copied extractor.entry) x → HasSegments x self.old → HasSegments x self.new }
@@ -65,10 +67,36 @@ impl FollowerState {
             let answer = self.go_on(alloc, store, view, extractor)?;
             return Ok(answer);
         }
-        let last = last_read(alloc, store, self.following, &view)?;
+        let last = self.last_read(alloc, store, &view)?;
         let (rebuilt, answer) = rebuild(alloc, store, self.following, view, last, extractor)?;
         self.take(alloc, rebuilt)?;
         Ok(answer)
+    }
+
+    /// The last log file that it replays where it begins by the tables of a manifest.
+    fn last_read<S: Store>(
+        &self,
+        alloc: Global,
+        store: &mut S,
+        view: &VersionedManifest,
+    ) -> Result<u64, SlateError>
+        requires free { is_pinned self.now.mode ≡ false }
+        ensures faults { CountsFaults (S.faults store.old) (S.faults store.new) result }
+        ensures kept { S.objects store.new ≡ S.objects store.old }
+        ensures read { IfOk result (λ last. IfSome (S.objects store.old) (λ o. IsLastRead self.now view.now o last)) }
+        ensures refusals { IfErr result IsOfReplay }
+        ensures calls { IfSome (S.objects store.old) (λ o. IfOk result (λ last. S.calls store.new + (last - view.now.manifest.replay_after_wal_id) ≤ S.calls store.old + (readings self.now.lag (read_logs self.now.mode self.now.skips o (Some view.now)) + 1))
+            × (S.calls store.new ≤ S.calls store.old + (readings self.now.lag (read_logs self.now.mode self.now.skips o (Some view.now)) + 1))) }
+    {
+        let from = view.manifest.replay_after_wal_id;
+        if self.following.skips {
+            return Ok(from);
+        }
+        let tabled = view.manifest.last_l0_seq;
+        if tabled <= self.number() {
+            return last_above(alloc, store, from);
+        }
+        last_taken(alloc, store, self.following.lag, tabled, from)
     }
 
     /// Goes by a manifest, and takes what log files have that it hasn't replayed yet.
@@ -82,21 +110,22 @@ impl FollowerState {
         requires open_ { self.old.result ≡ None }
         requires reaches { Reaches self.old view }
         ensures faults { CountsFaults (S.faults store.old) (S.faults store.new) result }
-        ensures calls { IfSome (S.objects store.old) (λ o. S.calls store.new ≤ S.calls store.old + (last_above self.old view o - max self.old.mark view.manifest.replay_after_wal_id + 1)) }
+        ensures calls { IfSome (S.objects store.old) (λ o. S.calls store.new ≤ S.calls store.old + (readings self.old.lag (last_above self.old view o - max self.old.mark view.manifest.replay_after_wal_id) + 1)) }
         ensures kept { S.objects store.new ≡ S.objects store.old }
-        ensures gone { IfOk result (λ answer. IfSome (S.objects store.old) (λ o. GoesOn o view (last_above self.old view o) self.old (unleased self.new) answer)) }
-        ensures asked { IfOk result (λ answer. (self.new.mode ≡ self.old.mode) × (self.new.skips ≡ self.old.skips) × (self.new.lease ≡ self.old.lease)
+        ensures gone { IfOk result (λ answer. IfSome (S.objects store.old) (λ o. (last : ℕ) × IsLastTaken self.old.lag (number self.old) (max self.old.mark view.manifest.replay_after_wal_id) o last × GoesOn o view last self.old (unleased self.new) answer)) }
+        ensures asked { IfOk result (λ answer. (self.new.mode ≡ self.old.mode) × (self.new.skips ≡ self.old.skips) × (self.new.lag ≡ self.old.lag) × (self.new.lease ≡ self.old.lease)
             × (self.new.result ≡ None) × (self.new.view ≡ view) × AnswersAt (number self.new) answer) }
         ensures failed { OnErr result (self.new ≡ self.old) }
         ensures segments { (x : Option Extractor) → IsExtractor E.may_name E.may_extract (option_copied extractor.entry) x → HasSegments x self.old → HasSegments x self.new }
         ensures lacks { (x : Option Extractor) (key : List ℕ) → IsExtractor E.may_name E.may_extract (option_copied extractor.entry) x →
-            result ≡ Err (SlateError.EmptySegmentPrefix key) → IfSome (S.objects store.old) (λ o. (first : List ℕ) × GoingLacks x o view (last_above self.old view o) self.old first) }
+            result ≡ Err (SlateError.EmptySegmentPrefix key) → IfSome (S.objects store.old) (λ o. (last : ℕ) × IsLastTaken self.old.lag (number self.old) (max self.old.mark view.manifest.replay_after_wal_id) o last × ((first : List ℕ) × GoingLacks x o view last self.old first)) }
         ensures named { (x : Option Extractor) (key : List ℕ) → IsExtractor E.may_name E.may_extract (option_copied extractor.entry) x → result ≡ Err (SlateError.EmptySegmentPrefix key) → IsSome x }
         ensures refusals { IfErr result IsOfRebuilding }
     {
         let from = self.mark.max(view.manifest.replay_after_wal_id);
         let tabled = view.manifest.last_l0_seq;
-        let last = last_above(alloc, store, from)?;
+        let number = self.number();
+        let last = last_taken(alloc, store, self.following.lag, number, from)?;
         let (replayed, _had) = self.extend(alloc, store, from, last, tabled, extractor)?;
         self.go_by(view, reached(replayed, last));
         Ok(answer_of(replayed, self.number()))

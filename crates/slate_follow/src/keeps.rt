@@ -17,11 +17,12 @@ ghost use Rattle.slate_model.specs.Stores.{Stands, by_objects};
 ghost use Rattle.slate_follow.specs.Growing.{IsPushed, added_to, settled};
 ghost use Rattle.slate_follow.specs.Keeping.{CallsKeeping, CallsRound, HasTaken, IsNews, IsOfPolling, KeepLacks, LeftBy, MayLack, MovesBy, NewsLacks, PutsBy, ReplaceLacks, TakesLatest, answered, kept_answer, put_tried};
 ghost use Rattle.slate_follow.specs.Answering.{IsOfPoll};
+ghost use Rattle.slate_follow.specs.Lagging.{readings};
 ghost use Rattle.slate_follow.specs.Rebuilding.{Truncates, answer_of, new_logs};
 
 use crate::leases::{latest_of, put_next, with_new_lease, with_renewed_lease};
 use crate::polls::poll_error;
-use crate::rebuilds::{answer_of, last_above, reached};
+use crate::rebuilds::{answer_of, last_taken, reached};
 use crate::{FollowerState, PollAnswer};
 use bytes::Bytes;
 use slate_errors::{CloseFault, SlateError};
@@ -64,11 +65,11 @@ impl FollowerState {
         ensures faults { CountsFaults (S.faults store.old) (S.faults store.new) result }
         ensures keeps { (x : Option Extractor) → IsExtractor E.may_name E.may_extract (option_copied extractor.entry) x → (made : ℕ) × PollsLeased (by_objects (S.objects store.old)) x made lease.now moment self.old
             (known S.objects S.faults store.old) result self.new (known S.objects S.faults store.new) }
-        ensures left { IfErr result (λ error. LeftBy error self.old self.new) }
+        ensures left { IfErr result (λ error. LeftBy moment self.old (S.objects store.old) error self.new (S.objects store.new)) }
         ensures truncates { IfOk result (λ answer. IfSome (S.objects store.old) (λ o. Truncates o self.new answer)) }
         ensures kind { IfErr result (IsOfPoll ManagedCheckpoint) }
         ensures costs { IfOk result (λ _. IfSome (S.objects store.old) (λ o. CallsKeeping o self.old lease.now moment (S.calls store.old) (S.calls store.new))) }
-        ensures calls { IfSome (S.objects store.old) (λ o. S.calls store.new ≤ S.calls store.old + 9 * (replayed_logs o + 3)) }
+        ensures calls { IfSome (S.objects store.old) (λ o. S.calls store.new ≤ S.calls store.old + 9 * (readings self.old.lag (replayed_logs o) + 3)) }
     {
         let kept = match self.keep_lease(alloc, store, lease, extractor, moment) {
             Ok(kept) => kept,
@@ -142,13 +143,13 @@ impl FollowerState {
         ensures faults { CountsFaults (S.faults store.old) (S.faults store.new) result }
         ensures puts { WhereModelled (λ o o'. (made : ℕ) × PutsPlanned Stands MayLack (to_keep self.old.view lease.now moment) o (kept_answer result) made o'
             × IfErr result (λ _. KeepsOrNot (to_keep self.old.view lease.now moment) made self.old o self.new)) (S.objects store.old) (S.objects store.new) }
-        ensures answers { IfOk result (λ kept. IsOpenAt self.old.skips self.new kept.answer) }
+        ensures answers { IfOk result (λ kept. IsOpenAt self.old.skips self.old.lag self.new kept.answer) }
         ensures keeps { IfOk result (λ kept. WhereModelled (λ o o'. Keeps (by_objects (S.objects store.old)) lease.now moment self.old o self.new kept.answer o') (S.objects store.old) (S.objects store.new)) }
         ensures failed { IfErr result (λ _. self.new ≡ record self.old { lease = self.new.lease }) }
         ensures truncates { IfOk result (λ kept. IfSome (S.objects store.old) (λ o. Truncates o self.new kept.answer)) }
         ensures kind { IfErr result (IsOfPoll ManagedCheckpoint) }
         ensures costs { IfOk result (λ _. IfSome (S.objects store.old) (λ o. CallsRound o self.old lease.now moment (S.calls store.old) (S.calls store.new))) }
-        ensures calls { IfSome (S.objects store.old) (λ o. S.calls store.new ≤ S.calls store.old + (9 * replayed_logs o + 26)) }
+        ensures calls { IfSome (S.objects store.old) (λ o. S.calls store.new ≤ S.calls store.old + (9 * readings self.old.lag (replayed_logs o) + 26)) }
         ensures moved { IfOk result (λ kept. IfSome (S.objects store.old) (MovesBy kept.moved self.old)) }
         ensures there { IfOk result (λ kept. kept.moved ≡ true → HasTaken self.new) }
         ensures segments { (x : Option Extractor) → IsExtractor E.may_name E.may_extract (option_copied extractor.entry) x → HasSegments x self.old → HasSegments x self.new }
@@ -178,7 +179,7 @@ impl FollowerState {
         ensures faults { CountsFaults (S.faults store.old) (S.faults store.new) result }
         ensures puts { WhereModelled (λ o o'. (made : ℕ) × PutsPlanned Stands MayLack (to_keep self.old.view lease.now moment) o (answered result) made o'
             × IfErr (answered result) (λ _. KeepsOrNot (to_keep self.old.view lease.now moment) made self.old o self.new)) (S.objects store.old) (S.objects store.new) }
-        ensures answers { IfOk (answered result) (λ answer. IsOpenAt self.old.skips self.new answer) }
+        ensures answers { IfOk (answered result) (λ answer. IsOpenAt self.old.skips self.old.lag self.new answer) }
         ensures keeps { IfOk (answered result) (λ answer. WhereModelled (λ o o'. Keeps (by_objects (S.objects store.old)) lease.now moment self.old o self.new answer o') (S.objects store.old) (S.objects store.new)) }
         ensures failed { IfErr (answered result) (λ _. self.new ≡ record self.old { lease = self.new.lease }) }
         ensures again { result ≡ Ok None → (self.new ≡ self.old) × (S.objects store.new ≡ S.objects store.old) }
@@ -186,8 +187,8 @@ impl FollowerState {
         ensures kind { IfErr result (IsOfPoll ManagedCheckpoint) }
         ensures free { IfOk (answered result) (λ _. IfSome (S.objects store.old) (λ o. Stands (checkpoint_changes (to_keep self.old.view lease.now moment) o) o → ⊥)) }
         ensures costs { IfOk (answered result) (λ _. IfSome (S.objects store.old) (λ o. CallsRound o self.old lease.now moment (S.calls store.old) (S.calls store.new))) }
-        ensures calls { IfSome (S.objects store.old) (λ o. S.calls store.new ≤ S.calls store.old + 2 * (replayed_logs o + 2)) }
-        ensures calls_again { result ≡ Ok None → IfSome (S.objects store.old) (λ o. S.calls store.new ≤ S.calls store.old + (replayed_logs o + 3)) }
+        ensures calls { IfSome (S.objects store.old) (λ o. S.calls store.new ≤ S.calls store.old + 2 * (readings self.old.lag (replayed_logs o) + 2)) }
+        ensures calls_again { result ≡ Ok None → IfSome (S.objects store.old) (λ o. S.calls store.new ≤ S.calls store.old + (readings self.old.lag (replayed_logs o) + 3)) }
         ensures moved { IfOk result (λ found. IfSome found (λ kept. IfSome (S.objects store.old) (MovesBy kept.moved self.old))) }
         ensures there { IfOk result (λ found. IfSome found (λ kept. kept.moved ≡ true → HasTaken self.new)) }
         ensures segments { (x : Option Extractor) → IsExtractor E.may_name E.may_extract (option_copied extractor.entry) x → HasSegments x self.old → HasSegments x self.new }
@@ -243,7 +244,7 @@ impl FollowerState {
         ensures faults { CountsFaults (S.faults store.old) (S.faults store.new) result }
         ensures puts { WhereModelled (λ o o'. PutsBy MayLack (leased lease.now.lifetime (to_write (Some lease.now.id) (Some lease.now.lifetime) moment latest.now)) self.old.lease o (answered result) self.new.lease o') (S.objects store.old) (S.objects store.new) }
         ensures taken { IfOk (answered result) (λ answer. IfSome (S.objects store.new) (λ o'. TakesLatest (leased lease.now.lifetime (to_write (Some lease.now.id) (Some lease.now.lifetime) moment latest.now)) self.old o' self.new answer)) }
-        ensures answers { IfOk (answered result) (λ answer. IsOpenAt self.old.skips self.new answer) }
+        ensures answers { IfOk (answered result) (λ answer. IsOpenAt self.old.skips self.old.lag self.new answer) }
         ensures failed { IfErr (answered result) (λ _. self.new ≡ record self.old { lease = self.new.lease }) }
         ensures again { result ≡ Ok None → (self.new ≡ self.old) × (S.objects store.new ≡ S.objects store.old) }
         ensures truncates { IfOk (answered result) (λ answer. IfSome (S.objects store.old) (λ o. Truncates o self.new answer)) }
@@ -288,7 +289,7 @@ impl FollowerState {
         ensures faults { CountsFaults (S.faults store.old) (S.faults store.new) result }
         ensures puts { WhereModelled (λ o o'. PutsBy MayLack (leased lease.now.lifetime (to_write (Some lease.now.id) (Some lease.now.lifetime) moment latest.now)) self.old.lease o (answered result) self.new.lease o') (S.objects store.old) (S.objects store.new) }
         ensures taken { IfOk (answered result) (λ answer. IfSome (S.objects store.new) (λ o'. TakesLatest (leased lease.now.lifetime (to_write (Some lease.now.id) (Some lease.now.lifetime) moment latest.now)) self.old o' self.new answer)) }
-        ensures answers { IfOk (answered result) (λ answer. IsOpenAt self.old.skips self.new answer) }
+        ensures answers { IfOk (answered result) (λ answer. IsOpenAt self.old.skips self.old.lag self.new answer) }
         ensures failed { (before : Follower) → IsPushed before news.number news.mark news.segments self.old → IfErr (answered result) (λ _. self.new ≡ record before { lease = self.new.lease }) }
         ensures again { result ≡ Ok None → (self.new.lease ≡ self.old.lease) × (S.objects store.new ≡ S.objects store.old) }
         ensures truncates { IfOk (answered result) (λ answer. IfSome (S.objects store.old) (λ o. Truncates o self.new answer)) }
@@ -376,7 +377,7 @@ impl FollowerState {
             });
         }
         let from = mark.max(latest.manifest.replay_after_wal_id);
-        let last = last_above(alloc, store, from)?;
+        let last = last_taken(alloc, store, self.following.lag, number, from)?;
         let tabled = self.status.manifest().manifest.last_l0_seq;
         match self.extend(alloc, store, from, last, tabled, extractor) {
             Ok((replayed, segments)) => {

@@ -5,7 +5,7 @@ ghost use Rattle.slate_types.specs.Counts.{one_more};
 ghost use Rattle.slate_store.specs.declared.reader_modes.DbReaderMode.{DbReaderMode as AnyMode};
 ghost use Rattle.slate_store.specs.declared.reader_modes.DbReaderMode.TheVariants.{ManagedCheckpoint};
 ghost use Rattle.slate_store.specs.Calls.{WhereModelled};
-ghost use Rattle.slate_store.specs.Objects.{PutManifest, is_present};
+ghost use Rattle.slate_store.specs.Objects.{Objects, PutManifest, is_present};
 ghost use Rattle.slate_store.specs.Checkpoints.{found, to_refresh, to_write};
 ghost use Rattle.slate_store.specs.Refusals.{PlanIs};
 ghost use Rattle.slate_model.specs.Known.{CountsFaults};
@@ -14,8 +14,8 @@ ghost use Rattle.slate_model.specs.Followed.{RefusesLatest};
 ghost use Rattle.slate_model.specs.Managed.{PutsPlanned, TakeRefusal};
 ghost use Rattle.slate_model.specs.Segments.{Extractor, IsExtractor};
 ghost use Rattle.slate_model.specs.Stores.{Stands};
-ghost use Rattle.slate_follow.specs.Answering.{IsOfOpening, IsOfOptions};
-ghost use Rattle.slate_follow.specs.Keeping.{FindsLatest, GivesLease, MayMismatch, PutsManifest, tried};
+ghost use Rattle.slate_follow.specs.Answering.{IsOfLatest, IsOfOpening, IsOfOptions};
+ghost use Rattle.slate_follow.specs.Keeping.{CallsRefused, FindsLatest, GivesLease, MayMismatch, PutsManifest, tried};
 ghost use Rattle.slate_follow.specs.Stepping.{IsOfTurn};
 
 use crate::DbReaderOptions;
@@ -23,7 +23,7 @@ use crate::rebuilds::follow_refusal;
 use slate_errors::SlateError;
 use slate_model::{Lease, error_of_refusal};
 use slate_store::{
-    COMMIT_TRIES, Store, StoreError, VersionedManifest, next_with_checkpoint, next_with_end,
+    COMMIT_TRIES, Store, VersionedManifest, next_with_checkpoint, next_with_end, read_latest,
 };
 use slate_types::PrefixExtractor;
 use std::alloc::Global;
@@ -54,7 +54,7 @@ pub(crate) fn lease_refusal(options: &DbReaderOptions) -> Option<SlateError>
     None
 }
 
-/// The latest manifest.
+/// The latest manifest, as `read_latest` reads it.
 pub(crate) fn latest_of<S: Store>(
     alloc: Global,
     store: &mut S,
@@ -67,13 +67,13 @@ pub(crate) fn latest_of<S: Store>(
     ensures one { S.calls store.new ≡ one_more (S.calls store.old) }
     ensures kind { IfErr result (λ error. (mode : AnyMode) → IsOfTurn mode error) }
 {
-    match store.latest_manifest(alloc)? {
-        Some(latest) => Ok(latest),
-        None => Err(SlateError::LatestTransactionalObjectVersionMissing),
+    match read_latest(alloc, store) {
+        Ok(latest) => Ok(latest),
+        Err(refusal) => Err(error_of_refusal(refusal)),
     }
 }
 
-/// Puts a manifest, and answers whether it did: where one is stored under its id, it didn't.
+/// Puts a manifest as the store's `put_next` does, and answers whether it did: where one is stored under its id, it didn't.
 pub(crate) fn put_next<S: Store>(
     alloc: Global,
     store: &mut S,
@@ -86,11 +86,11 @@ pub(crate) fn put_next<S: Store>(
     ensures one { S.calls store.new ≡ one_more (S.calls store.old) }
     ensures kind { IfErr result (λ error. (mode : AnyMode) → IsOfTurn mode error) }
     ensures free { result ≡ Ok true → IfSome (S.objects store.old) (λ o. is_present (PutManifest next.now.id next.now.manifest) o ≡ false) }
+    ensures undecided { IfErr result (λ error. IsOfLatest error → ⊥) }
 {
-    match store.put_manifest(alloc, next.id, &next.manifest) {
-        Ok(()) => Ok(true),
-        Err(StoreError::Exists) => Ok(false),
-        Err(error) => Err(SlateError::from(error)),
+    match slate_store::put_next(alloc, store, next) {
+        Ok(is_put) => Ok(is_put),
+        Err(refusal) => Err(error_of_refusal(refusal)),
     }
 }
 
@@ -137,10 +137,11 @@ fn try_to_take<S: Store, E: PrefixExtractor>(
 ) -> Result<Option<(VersionedManifest, Lease)>, SlateError>
     ensures faults { CountsFaults (S.faults store.old) (S.faults store.new) result }
     ensures calls { S.calls store.new ≤ S.calls store.old + 2 }
+    ensures first { IfErr result (λ error. IsOfLatest error → S.calls store.new ≤ S.calls store.old + 1) }
     ensures puts { WhereModelled (λ o o'. (made : ℕ) × PutsPlanned Stands MayMismatch (to_take lifetime moment) o (tried result) made o') (S.objects store.old) (S.objects store.new) }
     ensures mismatch { (x : Option Extractor) → IsExtractor E.may_name E.may_extract (option_copied extractor.entry) x → IfErr result (λ error. IfSome (S.objects store.old) (λ o. MayMismatch o error → TakeRefusal x o error)) }
     ensures given { IfOk (tried result) (λ p. IfSome (S.objects store.old) (λ o. PlanIs (to_take lifetime moment) o (Ok (Some p.0, p.1)))) }
-    ensures fits { (x : Option Extractor) → IsExtractor E.may_name E.may_extract (option_copied extractor.entry) x → IfOk (tried result) (λ p. IfSome (S.objects store.old) (λ o. RefusesLatest x true o None)) }
+    ensures fits { (x : Option Extractor) → IsExtractor E.may_name E.may_extract (option_copied extractor.entry) x → IfOk result (λ _. IfSome (S.objects store.old) (λ o. RefusesLatest x true o None)) }
     ensures whole { (key : List ℕ) → result ≡ Err (SlateError.EmptySegmentPrefix key) → ⊥ }
     ensures again { result ≡ Ok None → S.objects store.new ≡ S.objects store.old }
     ensures kind { IfErr result (IsOfOpening ManagedCheckpoint) }
@@ -170,6 +171,8 @@ pub(crate) fn take_lease<S: Store, E: PrefixExtractor>(
 ) -> Result<(VersionedManifest, Lease), SlateError>
     ensures faults { CountsFaults (S.faults store.old) (S.faults store.new) result }
     ensures calls { S.calls store.new ≤ S.calls store.old + 16 }
+    ensures first { (x : Option Extractor) (o : Objects) → IsExtractor E.may_name E.may_extract (option_copied extractor.entry) x → S.objects store.old ≡ Some o → IfErr result (λ error. IsOfLatest error → S.calls store.new ≤ S.calls store.old + 1) }
+    ensures tries { IfErr result (λ error. IsOfLatest error → CallsRefused lifetime moment (S.objects store.old) (S.calls store.old) (S.calls store.new)) }
     ensures puts { WhereModelled (λ o o'. (made : ℕ) × PutsPlanned Stands MayMismatch (to_take lifetime moment) o result made o') (S.objects store.old) (S.objects store.new) }
     ensures mismatch { (x : Option Extractor) → IsExtractor E.may_name E.may_extract (option_copied extractor.entry) x → IfErr result (λ error. IfSome (S.objects store.old) (λ o. MayMismatch o error → TakeRefusal x o error)) }
     ensures given { IfOk result (λ p. IfSome (S.objects store.old) (λ o. PlanIs (to_take lifetime moment) o (Ok (Some p.0, p.1)))) }

@@ -63,6 +63,7 @@ pub(crate) enum Stage {
     ReadLatest,
     Put,
     AskLast,
+    LookAt { id: u64, last: u64 },
     ReadLog { last: u64 },
     ReadAgain,
     Ended,
@@ -201,7 +202,8 @@ impl PollMachine {
     ///
     /// What the calls are, in this order: the latest manifest; where a reader that keeps a checkpoint finds another one there
     /// than its view, in its tables, the last number in them or its segments, the put of one with a new checkpoint; the last
-    /// log file; each log file above the mark, or the latest manifest once more where there is none; and where the lease is
+    /// log file; where the reader may lag, log files from that one downwards up to one with a batch that it hasn't, which aren't read where
+    /// that leaves it no further behind than it may be; each log file above the mark, or the latest manifest once more where there is none; and where the lease is
     /// due then, the put of a manifest that renews it, or, where the checkpoint isn't there, that replaces it, and
     /// what log files have once more. One that skips log files leaves out those calls. A put that finds another manifest
     /// under its id begins the poll anew with the next step.
@@ -216,7 +218,7 @@ impl PollMachine {
     ///
     /// # Cost
     ///
-    /// One call of the store; of a reader at a checkpoint none. Over an honest store fewer than `(k + 1) * (2 * G + 8)` steps
+    /// One call of the store; of a reader at a checkpoint none. Over an honest store fewer than `(k + 1) * (2 * G + 8)` steps, where it may lag `(k + 1) * (4 * G + 8)`,
     /// of a poll answer None, k being its puts that found another manifest, and G the last log file's greatest id less the
     /// replay mark at the first step. A step that reads a log file takes time linear in its
     /// operations, for each new key a logarithm of the keys; one that reads or puts a manifest, in that; and the one that
@@ -252,7 +254,7 @@ impl PollMachine {
             FollowsOn line (S.objects store.new) result state.new self.new }
         // Few steps came before, and Truncated only where others put a table since the first one.
         ensures lasts { (line : Line) → IsContent (S.objects store.old) line → ((o : Objects) → S.objects store.old ≡ Some o → FollowsLine o line state.old self.old × Lasts o state.old self.old) →
-            IfSome (S.objects store.old) (λ o. IsFew self.old × LastsOn o (S.objects store.new) self.old result state.new self.new) }
+            IfSome (S.objects store.old) (λ o. IsFew state.old.lag self.old × LastsOn o (S.objects store.new) self.old result state.new self.new) }
         ensures tries { is_pinned state.old.mode ≡ false → IfSome (S.objects store.old) (λ o. TriesEight o self.old result) }
     {
         if state.is_pinned() {

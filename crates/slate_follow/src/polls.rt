@@ -3,10 +3,11 @@ ghost use Rattle.std.specs.Prelude.{◌≡◌, ◌≢◌, ◌+◌, ◌*◌, ◌�
 ghost use Rattle.std.specs.Option.{option_copied};
 ghost use Rattle.slate_errors.specs.Errors.{closed_error};
 ghost use Rattle.slate_store.specs.declared.reader_modes.DbReaderMode.TheVariants.{ManagedCheckpoint};
-ghost use Rattle.slate_model.specs.Follow.{Polls, Rebuilds, built, unseen};
+ghost use Rattle.slate_model.specs.Follow.{Polls, Rebuilds, SeesOwed, SeesPolled, built, unseen};
 ghost use Rattle.slate_model.specs.Followed.{RefusesLatest, followed_logs};
 ghost use Rattle.slate_model.specs.Follower.{HasSegments, is_managed, is_pinned};
 ghost use Rattle.slate_model.specs.Known.{FaultsRise, IsContent, known};
+ghost use Rattle.slate_model.specs.Lease.{lease_refusal};
 ghost use Rattle.slate_types.specs.Line.{Line};
 ghost use Rattle.slate_store.specs.Objects.{Objects};
 ghost use Rattle.slate_model.specs.Managed.{OpensManaged, PollsManaged, TakesLease};
@@ -14,7 +15,8 @@ ghost use Rattle.slate_model.specs.Segments.{Extractor, IsExtractor};
 ghost use Rattle.slate_model.specs.Open.{replayed_logs};
 ghost use Rattle.slate_model.specs.Stores.{by_objects, kept_seen};
 ghost use Rattle.slate_follow.specs.Answering.{IsOfLatest, IsOfOpening, IsOfPoll, IsOfTaking};
-ghost use Rattle.slate_follow.specs.Keeping.{CallsKeeping, LeftBy};
+ghost use Rattle.slate_follow.specs.Lagging.{readings};
+ghost use Rattle.slate_follow.specs.Keeping.{CallsKeeping, CallsRefused, LeftBy};
 ghost use Rattle.slate_follow.specs.Rebuilding.{CallsContinuing, CallsOpening, CallsRebuilding, Continues, ReplaysView, Truncates, poll_error, polled};
 
 use crate::leases::{latest_of, lease_refusal, take_lease};
@@ -80,17 +82,21 @@ impl FollowerState {
         moment: i64,
     ) -> Result<(FollowerState, PollAnswer), SlateError>
         ensures rebuilds { (x : Option Extractor) → IsExtractor E.may_name E.may_extract (option_copied extractor.entry) x → is_managed mode ≡ false →
-            Rebuilds (by_objects (S.objects store.old)) x mode options.now.skip_wal_replay true unseen (known S.objects S.faults store.old) result (known S.objects S.faults store.new) }
+            Rebuilds (by_objects (S.objects store.old)) x mode options.now.skip_wal_replay true options.now.max_lag (SeesOwed (by_objects (S.objects store.old)) mode options.now.skip_wal_replay options.now.max_lag) unseen (known S.objects S.faults store.old) result (known S.objects S.faults store.new) }
         ensures replays { is_managed mode ≡ false → IfOk result (λ p. IfSome (S.objects store.old) (λ o. ReplaysView true o p.0 p.1)) }
         ensures calls { is_managed mode ≡ false → IfSome (S.objects store.old) (λ o. CallsOpening mode options.now.skip_wal_replay o (S.calls store.old) (S.calls store.new)) }
         ensures managed { (x : Option Extractor) → IsExtractor E.may_name E.may_extract (option_copied extractor.entry) x → is_managed mode ≡ true →
             (made : ℕ) × OpensManaged (by_objects (S.objects store.old)) x made options.now.checkpoint_lifetime_ms options.now.manifest_poll_interval_ms
-            options.now.skip_wal_replay moment (known S.objects S.faults store.old) result (known S.objects S.faults store.new) }
+            options.now.skip_wal_replay options.now.max_lag moment (known S.objects S.faults store.old) result (known S.objects S.faults store.new) }
+        ensures refused { is_managed mode ≡ true → IfSome (lease_refusal options.now.checkpoint_lifetime_ms options.now.manifest_poll_interval_ms) (λ error. (result ≡ Err error) × (store.new ≡ store.old)) }
         ensures managed_calls { is_managed mode ≡ true → IfSome (S.objects store.old) (λ o. S.calls store.new ≤ S.calls store.old + (followed_logs mode options.now.skip_wal_replay o + 17)) }
         ensures faults { FaultsRise (S.faults store.old) (S.faults store.new) result }
         ensures handed { (x : Option Extractor) → IsExtractor E.may_name E.may_extract (option_copied extractor.entry) x → is_managed mode ≡ false → is_pinned mode ≡ false →
             IfOk result (λ p. (o : Objects) (line : Line) → S.objects store.old ≡ Some o → IsContent (S.objects store.old) line → kept_seen p.0 o line) }
         ensures first { is_managed mode ≡ false → IfErr result (λ error. IsOfLatest error → S.calls store.new ≤ S.calls store.old + 1) }
+        ensures first_managed { (x : Option Extractor) (o : Objects) → IsExtractor E.may_name E.may_extract (option_copied extractor.entry) x → is_managed mode ≡ true → S.objects store.old ≡ Some o →
+            IfErr result (λ error. IsOfLatest error → S.calls store.new ≤ S.calls store.old + 1) }
+        ensures tries_managed { is_managed mode ≡ true → IfErr result (λ error. IsOfLatest error → CallsRefused options.now.checkpoint_lifetime_ms moment (S.objects store.old) (S.calls store.old) (S.calls store.new)) }
         ensures errors { IfErr result (IsOfOpening mode) }
         // The latest manifest is looked at in this order, as by handles: it is initialised, it fits the extractor, and another may be put after it.
         ensures decided { (x : Option Extractor) → IsExtractor E.may_name E.may_extract (option_copied extractor.entry) x → is_managed mode ≡ true → result ≡ Err SlateError.InvalidDBState →
@@ -103,6 +109,7 @@ impl FollowerState {
         let following = Following {
             mode,
             skips: options.skip_wal_replay,
+            lag: options.max_lag,
         };
         let (view, last) = find_view(alloc, store, following, extractor)?;
         let (rebuilt, answer) = rebuild(alloc, store, following, view, last, extractor)?;
@@ -120,8 +127,11 @@ impl FollowerState {
     ) -> Result<(FollowerState, PollAnswer), SlateError>
         ensures opens { (x : Option Extractor) → IsExtractor E.may_name E.may_extract (option_copied extractor.entry) x →
             (made : ℕ) × OpensManaged (by_objects (S.objects store.old)) x made options.now.checkpoint_lifetime_ms options.now.manifest_poll_interval_ms
-            options.now.skip_wal_replay moment (known S.objects S.faults store.old) result (known S.objects S.faults store.new) }
+            options.now.skip_wal_replay options.now.max_lag moment (known S.objects S.faults store.old) result (known S.objects S.faults store.new) }
+        ensures refused { IfSome (lease_refusal options.now.checkpoint_lifetime_ms options.now.manifest_poll_interval_ms) (λ error. (result ≡ Err error) × (store.new ≡ store.old)) }
         ensures calls { IfSome (S.objects store.old) (λ o. S.calls store.new ≤ S.calls store.old + (followed_logs ManagedCheckpoint options.now.skip_wal_replay o + 17)) }
+        ensures first { (x : Option Extractor) (o : Objects) → IsExtractor E.may_name E.may_extract (option_copied extractor.entry) x → S.objects store.old ≡ Some o → IfErr result (λ error. IsOfLatest error → S.calls store.new ≤ S.calls store.old + 1) }
+        ensures tries { IfErr result (λ error. IsOfLatest error → CallsRefused options.now.checkpoint_lifetime_ms moment (S.objects store.old) (S.calls store.old) (S.calls store.new)) }
         ensures faults { FaultsRise (S.faults store.old) (S.faults store.new) result }
         ensures kind { IfErr result (IsOfOpening ManagedCheckpoint) }
         ensures decided { (x : Option Extractor) → IsExtractor E.may_name E.may_extract (option_copied extractor.entry) x → result ≡ Err SlateError.InvalidDBState →
@@ -144,8 +154,10 @@ impl FollowerState {
     ) -> Result<(FollowerState, PollAnswer), SlateError>
         ensures takes { (x : Option Extractor) → IsExtractor E.may_name E.may_extract (option_copied extractor.entry) x →
             (made : ℕ) × TakesLease (by_objects (S.objects store.old)) x made options.now.checkpoint_lifetime_ms
-            options.now.skip_wal_replay moment (known S.objects S.faults store.old) result (known S.objects S.faults store.new) }
+            options.now.skip_wal_replay options.now.max_lag moment (known S.objects S.faults store.old) result (known S.objects S.faults store.new) }
         ensures calls { IfSome (S.objects store.old) (λ o. S.calls store.new ≤ S.calls store.old + (followed_logs ManagedCheckpoint options.now.skip_wal_replay o + 17)) }
+        ensures first { (x : Option Extractor) (o : Objects) → IsExtractor E.may_name E.may_extract (option_copied extractor.entry) x → S.objects store.old ≡ Some o → IfErr result (λ error. IsOfLatest error → S.calls store.new ≤ S.calls store.old + 1) }
+        ensures tries { IfErr result (λ error. IsOfLatest error → CallsRefused options.now.checkpoint_lifetime_ms moment (S.objects store.old) (S.calls store.old) (S.calls store.new)) }
         ensures faults { FaultsRise (S.faults store.old) (S.faults store.new) result }
         ensures kind { IfErr result (IsOfOpening ManagedCheckpoint) }
         ensures decided { (x : Option Extractor) → IsExtractor E.may_name E.may_extract (option_copied extractor.entry) x → result ≡ Err SlateError.InvalidDBState →
@@ -155,6 +167,7 @@ impl FollowerState {
         let following = Following {
             mode: DbReaderMode::ManagedCheckpoint,
             skips: options.skip_wal_replay,
+            lag: options.max_lag,
         };
         let lifetime = options.checkpoint_lifetime_ms;
         let (view, lease) = take_lease(alloc, store, lifetime, extractor, moment)?;
@@ -227,18 +240,18 @@ impl FollowerState {
         ensures polls { (x : Option Extractor) → IsExtractor E.may_name E.may_extract (option_copied extractor.entry) x → is_managed self.old.mode ≡ false →
             Polls (by_objects (S.objects store.old)) x self.old (known S.objects S.faults store.old) result self.new (known S.objects S.faults store.new) }
         ensures replays { is_managed self.old.mode ≡ false → IfOk result (λ a. is_pinned self.old.mode ≡ false → IfSome (S.objects store.old) (λ o. ReplaysView false o self.new a ⊎ Continues o self.old self.new a)) }
-        ensures calls { is_managed self.old.mode ≡ false → IfSome (S.objects store.old) (λ o. CallsRebuilding o (S.calls store.old) (S.calls store.new)) }
+        ensures calls { is_managed self.old.mode ≡ false → IfSome (S.objects store.old) (λ o. CallsRebuilding o self.old.lag (S.calls store.old) (S.calls store.new)) }
         ensures costs { is_managed self.old.mode ≡ false → IfOk result (λ _. IfSome (S.objects store.old) (λ o. CallsContinuing o self.old (S.calls store.old) (S.calls store.new))) }
         ensures managed { (x : Option Extractor) → IsExtractor E.may_name E.may_extract (option_copied extractor.entry) x → is_managed self.old.mode ≡ true →
             (made : ℕ) × PollsManaged (by_objects (S.objects store.old)) x made moment self.old (known S.objects S.faults store.old) result self.new (known S.objects S.faults store.new) }
         ensures costs_managed { is_managed self.old.mode ≡ true → IfOk result (λ _. IfSome self.old.lease (λ lease. IfSome (S.objects store.old) (λ o. CallsKeeping o self.old lease moment (S.calls store.old) (S.calls store.new)))) }
-        ensures managed_calls { is_managed self.old.mode ≡ true → IfSome (S.objects store.old) (λ o. S.calls store.new ≤ S.calls store.old + 9 * (replayed_logs o + 3)) }
+        ensures managed_calls { is_managed self.old.mode ≡ true → IfSome (S.objects store.old) (λ o. S.calls store.new ≤ S.calls store.old + 9 * (readings self.old.lag (replayed_logs o) + 3)) }
         ensures count { S.faults store.old ≤ S.faults store.new }
         ensures faults { self.old.result ≡ None → FaultsRise (S.faults store.old) (S.faults store.new) result }
         ensures truncates { IfOk result (λ a. IfSome (S.objects store.old) (λ o. Truncates o self.new a)) }
         ensures closed { IfSome self.old.result (λ r. result ≡ Err (closed_error r)) }
         ensures left { is_managed self.old.mode ≡ false → IfErr result (λ _. self.new ≡ self.old) }
-        ensures left_managed { is_managed self.old.mode ≡ true → self.old.result ≡ None → IfErr result (λ error. LeftBy error self.old self.new) }
+        ensures left_managed { is_managed self.old.mode ≡ true → self.old.result ≡ None → IfErr result (λ error. LeftBy moment self.old (S.objects store.old) error self.new (S.objects store.new)) }
         ensures untouched { self.old.result ≢ None → (self.new ≡ self.old) × (store.new ≡ store.old) }
         ensures stays { is_pinned self.old.mode ≡ true → (self.new ≡ self.old) × (store.new ≡ store.old) }
         ensures handed { (x : Option Extractor) → IsExtractor E.may_name E.may_extract (option_copied extractor.entry) x → is_managed self.old.mode ≡ false → is_pinned self.old.mode ≡ false → (o : Objects) (line : Line) →
@@ -276,12 +289,12 @@ impl FollowerState {
         requires free { is_pinned self.old.mode ≡ false }
         ensures faults { FaultsRise (S.faults store.old) (S.faults store.new) result }
         ensures rebuilds { (x : Option Extractor) → IsExtractor E.may_name E.may_extract (option_copied extractor.entry) x →
-            Rebuilds (by_objects (S.objects store.old)) x self.old.mode self.old.skips false (kept_seen self.old)
+            Rebuilds (by_objects (S.objects store.old)) x self.old.mode self.old.skips false self.old.lag (SeesPolled (by_objects (S.objects store.old)) self.old) (kept_seen self.old)
             (known S.objects S.faults store.old) (polled (built self.new result)) (known S.objects S.faults store.new) }
         ensures segments { (x : Option Extractor) → IsExtractor E.may_name E.may_extract (option_copied extractor.entry) x → HasSegments x self.old → HasSegments x self.new }
         ensures failed { OnErr result (self.new ≡ self.old) }
         ensures replays { IfOk result (λ a. IfSome (S.objects store.old) (λ o. ReplaysView false o self.new a ⊎ Continues o self.old self.new a)) }
-        ensures calls { IfSome (S.objects store.old) (λ o. CallsRebuilding o (S.calls store.old) (S.calls store.new)) }
+        ensures calls { IfSome (S.objects store.old) (λ o. CallsRebuilding o self.old.lag (S.calls store.old) (S.calls store.new)) }
         ensures costs { IfOk result (λ _. IfSome (S.objects store.old) (λ o. CallsContinuing o self.old (S.calls store.old) (S.calls store.new))) }
         ensures truncates { IfOk result (λ a. IfSome (S.objects store.old) (λ o. Truncates o self.new a)) }
         ensures kind { IfErr result IsOfTaking }

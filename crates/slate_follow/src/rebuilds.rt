@@ -9,6 +9,7 @@ ghost use Rattle.slate_model.specs.Follower.{HasSegments, is_pinned, number};
 ghost use Rattle.slate_model.specs.Known.{CountsFaults, FaultsRise};
 ghost use Rattle.slate_model.specs.Segments.{Extractor, IsExtractor, ops_of, unsegmented_refusal};
 ghost use Rattle.slate_follow.specs.Answering.{IsOfFinding, IsOfLatest};
+ghost use Rattle.slate_follow.specs.Lagging.{IsLastTaken, readings};
 ghost use Rattle.slate_follow.specs.Rebuilding.{BuildLacks, Builds, FindsLast, FindsView, Follows, GoesBy, IsOfFollowing, IsOfRebuilding, IsOfReplay, IsOfView, answer_of, reached};
 
 use crate::PollAnswer;
@@ -16,7 +17,7 @@ use crate::states::Following;
 use bytes::Bytes;
 use slate_errors::SlateError;
 use slate_reads::IndexedTable;
-use slate_replay::{Replayed, recover};
+use slate_replay::{Newest, Replayed, newest_above, recover};
 use slate_segments::{extractor_refusal, replayed_segments};
 use slate_store::{DbReaderMode, Store, VersionedManifest, find_checkpoint};
 use slate_types::{NoMemory, PrefixExtractor, Seq};
@@ -167,6 +168,34 @@ pub(crate) fn last_above<S: Store>(
     Ok(store.last_log(alloc, from)?)
 }
 
+/// The last log file that a poll replays above this one, by a reader that has come to a number: the last one of all, or this one, where
+/// that leaves the reader no more numbers behind than it may be.
+pub(crate) fn last_taken<S: Store>(
+    alloc: Global,
+    store: &mut S,
+    lag: u64,
+    number: u64,
+    from: u64,
+) -> Result<u64, SlateError>
+    ensures faults { CountsFaults (S.faults store.old) (S.faults store.new) result }
+    ensures kept { S.objects store.new ≡ S.objects store.old }
+    ensures taken { IfOk result (λ last. IfSome (S.objects store.old) (λ o. IsLastTaken lag number from o last)) }
+    ensures refusals { IfErr result IsOfReplay }
+    ensures calls { IfSome (S.objects store.old) (λ o. IfOk result (λ last. S.calls store.new + (last - from) ≤ S.calls store.old + (readings lag (last_log from o - from) + 1))
+        × (S.calls store.new ≤ S.calls store.old + (readings lag (last_log from o - from) + 1))) }
+{
+    let last = last_above(alloc, store, from)?;
+    if lag == 0 {
+        return Ok(last);
+    }
+    let reads = match newest_above(alloc, store, from, last, number)? {
+        Newest::Nothing => false,
+        Newest::Number(newest) => newest > number.saturating_add(lag),
+        Newest::Missing(_) => true,
+    };
+    Ok(if reads { last } else { from })
+}
+
 /// What a reader has of a manifest that it goes by and its log files up to the last one, and whether these were whole.
 pub(crate) fn rebuild<S: Store, E: PrefixExtractor>(
     alloc: Global,
@@ -179,8 +208,8 @@ pub(crate) fn rebuild<S: Store, E: PrefixExtractor>(
     ensures faults { CountsFaults (S.faults store.old) (S.faults store.new) result }
     ensures calls { S.calls store.new ≤ S.calls store.old + (last - view.manifest.replay_after_wal_id) }
     ensures kept { S.objects store.new ≡ S.objects store.old }
-    ensures built { IfOk result (λ p. IfSome (S.objects store.old) (λ o. Builds o following.mode following.skips view last p.0 p.1)) }
-    ensures asked { IfOk result (λ p. (p.0.mode ≡ following.mode) × (p.0.skips ≡ following.skips) × (p.0.view ≡ view)) }
+    ensures built { IfOk result (λ p. IfSome (S.objects store.old) (λ o. Builds o following.mode following.skips following.lag view last p.0 p.1)) }
+    ensures asked { IfOk result (λ p. (p.0.mode ≡ following.mode) × (p.0.skips ≡ following.skips) × (p.0.lag ≡ following.lag) × (p.0.view ≡ view)) }
     ensures answer { IfOk result (λ p. (p.0.lease ≡ None) × (p.0.result ≡ None) × AnswersAt (number p.0) p.1) }
     ensures segments { (x : Option Extractor) → IsExtractor E.may_name E.may_extract (option_copied extractor.entry) x → IfOk result (λ p.
         HasSegments x p.0 × (unsegmented_refusal x (ops_of p.0.line.batches) ≡ None)) }

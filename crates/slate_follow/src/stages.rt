@@ -4,7 +4,7 @@ ghost use Rattle.slate_types.specs.Counts.{one_more};
 ghost use Rattle.slate_types.specs.Line.{AreNumberedFrom};
 ghost use Rattle.slate_store.specs.declared.objects.VersionedManifest.{VersionedManifest as AnyManifest};
 ghost use Rattle.slate_store.specs.Checkpoints.{found, to_write};
-ghost use Rattle.slate_model.specs.Begun.{AsksLast, Begun, Ended, Puts, ReadsAgain, ReadsLatest, ReadsLog, committed, decided, emptied, kept_lease, leads_on, noted, overtaken_by, put_by, reached_number, replayed, replaying, taken, view_of};
+ghost use Rattle.slate_model.specs.Begun.{AsksLast, Begun, Ended, LooksAt, Puts, ReadsAgain, ReadsLatest, ReadsLog, committed, decided, emptied, kept_lease, leads_on, noted, overtaken_by, put_by, reached_number, replayed, replaying, taken, view_of};
 ghost use Rattle.slate_model.specs.Lease.{leased};
 ghost use Rattle.slate_model.specs.Follower.{Follower};
 ghost use Rattle.slate_model.specs.Known.{CountsFaults};
@@ -17,7 +17,7 @@ use crate::machines::{Commit, PollMachine, Stage, Turn};
 use slate_errors::SlateError;
 use slate_model::{FirstRead, Lease};
 use slate_reads::IndexedTable;
-use slate_replay::{Replayed, replay_next};
+use slate_replay::{Replayed, newest_of, replay_next};
 use slate_store::{COMMIT_TRIES, Store, VersionedManifest, find_checkpoint};
 use std::alloc::Global;
 
@@ -46,7 +46,8 @@ impl PollMachine {
                 Some(commit) => self.call_put(alloc, state, store, commit),
                 None => unreachable!(),
             },
-            Stage::AskLast => self.call_last(alloc, store),
+            Stage::AskLast => self.call_last(alloc, state, store),
+            Stage::LookAt { id, last } => self.call_look(alloc, state, store, id, last),
             Stage::ReadLog { last } => self.call_log(alloc, store, last),
             Stage::ReadAgain => self.call_again(alloc, store),
             Stage::Ended => unreachable!(),
@@ -95,20 +96,63 @@ impl PollMachine {
     }
 
     /// Asks for the last log file.
-    fn call_last<S: Store>(&mut self, alloc: Global, store: &mut S) -> Result<Turn, SlateError>
+    fn call_last<S: Store>(
+        &mut self,
+        alloc: Global,
+        state: &FollowerState,
+        store: &mut S,
+    ) -> Result<Turn, SlateError>
         requires ended { self.old.stage ≡ Ended }
         requires read { IsSome self.old.latest }
-        ensures next { (reader : Follower) → FitsReader reader self.old → CallsNext AsksLast reader self.old result self.new (S.objects store.old) (S.objects store.new) }
+        requires fits { FitsReader state.now self.old }
+        ensures next { CallsNext AsksLast state.now self.old result self.new (S.objects store.old) (S.objects store.new) }
         ensures faults { CountsFaults (S.faults store.old) (S.faults store.new) result }
         ensures calls { S.calls store.new ≡ one_more (S.calls store.old) }
     {
         let last = store.last_log(alloc, self.mark)?;
         if self.mark < last {
-            self.stage = Stage::ReadLog { last };
+            self.stage = if state.following.lag == 0 {
+                Stage::ReadLog { last }
+            } else {
+                Stage::LookAt { id: last, last }
+            };
             self.history.last_log = self.history.last_log.max(last);
         } else {
             self.stage = Stage::ReadAgain;
         }
+        Ok(Turn::Goes)
+    }
+
+    /// Looks at a log file, whether the reader may wait with those up to the last one.
+    fn call_look<S: Store>(
+        &mut self,
+        alloc: Global,
+        state: &FollowerState,
+        store: &mut S,
+        id: u64,
+        last: u64,
+    ) -> Result<Turn, SlateError>
+        requires ended { self.old.stage ≡ Ended }
+        requires read { IsSome self.old.latest }
+        requires above { self.old.mark < id }
+        requires within { id ≤ last }
+        requires fits { FitsReader state.now self.old }
+        ensures next { CallsNext (LooksAt id last) state.now self.old result self.new (S.objects store.old) (S.objects store.new) }
+        ensures faults { CountsFaults (S.faults store.old) (S.faults store.new) result }
+        ensures calls { S.calls store.new ≡ one_more (S.calls store.old) }
+    {
+        let Some(newest) = newest_of(alloc, store, id)? else {
+            return Ok(Turn::Breaks);
+        };
+        let reached = self.reached();
+        if newest > reached.saturating_add(state.following.lag) {
+            self.stage = Stage::ReadLog { last };
+            return Ok(Turn::Goes);
+        }
+        if newest > reached || id == self.mark + 1 {
+            return self.keep_lease(alloc);
+        }
+        self.stage = Stage::LookAt { id: id - 1, last };
         Ok(Turn::Goes)
     }
 

@@ -17,11 +17,13 @@ use slate_types::{NoMemory, Seq};
 use std::alloc::Global;
 use std::marker::Model;
 
-/// Which state of a database a reader follows, and whether it sees the tables alone and reads no log file.
+/// Which state of a database a reader follows, whether it sees the tables alone and reads no log file, and by how many numbers its
+/// polls may leave it behind.
 #[derive(Clone, Copy, Debug, PartialEq, Eq)]
 pub(crate) struct Following {
     pub(crate) mode: DbReaderMode,
     pub(crate) skips: bool,
+    pub(crate) lag: u64,
 }
 
 /// A reader that follows a database, without the store that it follows. SlateDB's `DbReader`, as a plain value.

@@ -7,7 +7,7 @@ ghost use Rattle.slate_types.specs.Operator.{Merge};
 ghost use Rattle.slate_store.specs.Objects.{Objects};
 ghost use Rattle.slate_reads.specs.Read.{IsOperator, read_at};
 ghost use Rattle.slate_model.specs.Close.{closed_follower, ended, recorded_fault};
-ghost use Rattle.slate_model.specs.Follow.{Polls, Rebuilds, unseen};
+ghost use Rattle.slate_model.specs.Follow.{Polls, Rebuilds, SeesOwed, unseen};
 ghost use Rattle.slate_model.specs.Followed.{RefusesLatest, followed_logs};
 ghost use Rattle.slate_model.specs.Follower.{is_managed, is_pinned, number};
 ghost use Rattle.slate_model.specs.Known.{FaultsRise, IsContent, known};
@@ -20,6 +20,7 @@ ghost use Rattle.slate_model.specs.Status.{follower_status};
 ghost use Rattle.slate_model.specs.Stores.{by_objects, kept_rows, kept_seen};
 ghost use Rattle.slate_follow.specs.Answering.{IsOfOpening, IsOfPoll};
 ghost use Rattle.slate_follow.specs.Keeping.{CallsKeeping, LeftBy};
+ghost use Rattle.slate_follow.specs.Lagging.{readings};
 ghost use Rattle.slate_follow.specs.Rebuilding.{CallsContinuing, CallsOpening, CallsRebuilding, Truncates};
 ghost use Rattle.slate_follow.specs.Scanned.{BeginsFrontOf, BeginsScanOf};
 
@@ -73,10 +74,10 @@ impl<S: Store> HeldReader<S> {
         S: Drop,
         ensures errors { IfErr result (IsOfOpening mode) }
         ensures rebuilds { (x : Option Extractor) → IsExtractor E.may_name E.may_extract (option_copied extractor.entry) x → is_managed mode ≡ false →
-            IfOk result (λ p. Rebuilds (by_objects (S.objects store)) x mode options.now.skip_wal_replay true unseen (known S.objects S.faults store) (Ok (p.0.follower, p.1)) (known S.objects S.faults p.0.store)) }
+            IfOk result (λ p. Rebuilds (by_objects (S.objects store)) x mode options.now.skip_wal_replay true options.now.max_lag (SeesOwed (by_objects (S.objects store)) mode options.now.skip_wal_replay options.now.max_lag) unseen (known S.objects S.faults store) (Ok (p.0.follower, p.1)) (known S.objects S.faults p.0.store)) }
         ensures managed { (x : Option Extractor) → IsExtractor E.may_name E.may_extract (option_copied extractor.entry) x → is_managed mode ≡ true →
             IfOk result (λ p. (made : ℕ) × OpensManaged (by_objects (S.objects store)) x made options.now.checkpoint_lifetime_ms options.now.manifest_poll_interval_ms
-            options.now.skip_wal_replay moment (known S.objects S.faults store) (Ok (p.0.follower, p.1)) (known S.objects S.faults p.0.store)) }
+            options.now.skip_wal_replay options.now.max_lag moment (known S.objects S.faults store) (Ok (p.0.follower, p.1)) (known S.objects S.faults p.0.store)) }
         ensures calls { is_managed mode ≡ false → IfOk result (λ p. IfSome (S.objects store) (λ o. CallsOpening mode options.now.skip_wal_replay o (S.calls store) (S.calls p.0.store))) }
         ensures managed_calls { is_managed mode ≡ true → IfOk result (λ p. IfSome (S.objects store) (λ o. S.calls p.0.store ≤ S.calls store + (followed_logs mode options.now.skip_wal_replay o + 17))) }
         ensures faults { IfOk result (λ p. S.faults store ≤ S.faults p.0.store) }
@@ -191,9 +192,9 @@ impl<S: Store> HeldReader<S> {
             Polls (by_objects (S.objects self.old.store)) x self.old.follower (known S.objects S.faults self.old.store) result self.new.follower (known S.objects S.faults self.new.store) }
         ensures managed { (x : Option Extractor) → IsExtractor E.may_name E.may_extract (option_copied extractor.entry) x → is_managed self.old.follower.mode ≡ true →
             (made : ℕ) × PollsManaged (by_objects (S.objects self.old.store)) x made moment self.old.follower (known S.objects S.faults self.old.store) result self.new.follower (known S.objects S.faults self.new.store) }
-        ensures calls { is_managed self.old.follower.mode ≡ false → IfSome (S.objects self.old.store) (λ o. CallsRebuilding o (S.calls self.old.store) (S.calls self.new.store)) }
+        ensures calls { is_managed self.old.follower.mode ≡ false → IfSome (S.objects self.old.store) (λ o. CallsRebuilding o self.old.follower.lag (S.calls self.old.store) (S.calls self.new.store)) }
         ensures costs { is_managed self.old.follower.mode ≡ false → IfOk result (λ _. IfSome (S.objects self.old.store) (λ o. CallsContinuing o self.old.follower (S.calls self.old.store) (S.calls self.new.store))) }
-        ensures managed_calls { is_managed self.old.follower.mode ≡ true → IfSome (S.objects self.old.store) (λ o. S.calls self.new.store ≤ S.calls self.old.store + 9 * (replayed_logs o + 3)) }
+        ensures managed_calls { is_managed self.old.follower.mode ≡ true → IfSome (S.objects self.old.store) (λ o. S.calls self.new.store ≤ S.calls self.old.store + 9 * (readings self.old.follower.lag (replayed_logs o) + 3)) }
         ensures costs_managed { is_managed self.old.follower.mode ≡ true → IfOk result (λ _. IfSome self.old.follower.lease (λ lease. IfSome (S.objects self.old.store) (λ o. CallsKeeping o self.old.follower lease moment (S.calls self.old.store) (S.calls self.new.store)))) }
         ensures count { S.faults self.old.store ≤ S.faults self.new.store }
         ensures closed { IfSome self.old.follower.result (λ r. result ≡ Err (closed_error r)) }
@@ -203,7 +204,7 @@ impl<S: Store> HeldReader<S> {
         ensures faults { self.old.follower.result ≡ None → FaultsRise (S.faults self.old.store) (S.faults self.new.store) result }
         ensures truncates { IfOk result (λ a. IfSome (S.objects self.old.store) (λ o. Truncates o self.new.follower a)) }
         ensures left_managed { is_managed self.old.follower.mode ≡ true → self.old.follower.result ≡ None →
-            IfErr result (λ error. LeftBy error self.old.follower self.new.follower) }
+            IfErr result (λ error. LeftBy moment self.old.follower (S.objects self.old.store) error self.new.follower (S.objects self.new.store)) }
         ensures handed { (x : Option Extractor) → IsExtractor E.may_name E.may_extract (option_copied extractor.entry) x → is_managed self.old.follower.mode ≡ false → is_pinned self.old.follower.mode ≡ false → (o : Objects) (line : Line) →
             S.objects self.old.store ≡ Some o → IsContent (S.objects self.old.store) line → kept_seen self.old.follower o line → kept_seen self.new.follower o line }
         ensures handed_managed { (x : Option Extractor) → IsExtractor E.may_name E.may_extract (option_copied extractor.entry) x → is_managed self.old.follower.mode ≡ true → (o o' : Objects) (line : Line) →

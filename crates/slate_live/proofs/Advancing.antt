@@ -1,16 +1,17 @@
 -- A begun poll doesn't come to a number below its reader's.
-use Rattle.std.proofs.Common.{◌≡◌, ◌∙◌, ℕ, ℤ, ◌+◌, ◌≤◌, ◌&&◌, ◌==◌, max, not, inl, inr, Bool, true, false, if◌then◌else◌, List, length, Option, Some, None, Ok, Err, refl, sym, ap, subst, arith}
+use Rattle.std.proofs.Common.{◌≡◌, ◌∙◌, ℕ, ℤ, ◌+◌, ◌-◌, ◌≤◌, ◌&&◌, ◌==◌, max, not, inl, inr, Bool, true, false, if◌then◌else◌, List, length, Option, Some, None, Ok, Err, refl, sym, ap, subst, arith}
 use Rattle.std.proofs.lemmas.Bool.{cases_lt, eqb-true, le-leb}
-use Rattle.std.specs.Prelude.{nat_le, nat_lt}
+use Rattle.std.specs.Prelude.{◌||◌, nat_le, nat_lt}
 use Rattle.slate_types.specs.declared.batches.Batch.{Batch}
 use Rattle.slate_store.specs.Checkpoints.{Plan, found, to_refresh, to_write}
 use Rattle.slate_store.specs.declared.objects.Checkpoint.{Checkpoint}
 use Rattle.slate_store.specs.declared.objects.VersionedManifest.{VersionedManifest}
 use Rattle.slate_errors.specs.declared.errors.SlateError.TheVariants as errors
-use Rattle.slate_model.specs.Begun.{AsksLast, Begun, Breaks, Ended, Ends, Fails, Goes, ReadsAgain, ReadsLog, Turn, asked_last, asked_lease, base_of, begun_at, committed, decided, emptied, kept_lease, leads_on, overtaken_by, put_by, reached_number, read_again, replayed, replaying, view_of, with_log}
+use Rattle.slate_model.specs.Begun.{AsksLast, Begun, Breaks, Ended, Ends, Fails, Goes, LooksAt, ReadsAgain, ReadsLog, Turn, asked_last, asked_lease, base_of, begun_at, committed, decided, emptied, first_log, greatest_number, kept_lease, leads_on, looked_at, overtaken_by, put_by, reached_number, read_again, replayed, replaying, view_of, with_log}
 use Rattle.slate_model.specs.Follower.{Follower, kept_follower, number}
 use Rattle.slate_model.specs.Lease.{differs, is_due, leased}
 use Rattle.slate_model.specs.declared.leases.Lease.{Lease}
+use Rattle.slate_follow.specs.Stepping.{LooksTo}
 use Rattle.slate_model.specs.declared.polls.PollHistory.{PollHistory}
 
 -- the tables of two manifests that don't differ end with one number
@@ -135,12 +136,28 @@ module _ (reader : Follower) (number_is : number (kept_follower reader) ≡ numb
       by true = tt
       by false = start-advances b.moment (b.overtaken + 1) b.history
 
-  pub asked-advances : (last : ℕ) (b : Begun) → Advances b → Advanced (Goes (asked_last last b))
+  pub asked-advances : (last : ℕ) (b : Begun) → Advances b → Advanced (Goes (asked_last kept last b))
   asked-advances last b a = by (nat_lt b.mark last)
     where
-      by : (x : Bool) → Advanced (Goes (if x then record b { stage = ReadsLog last; history = with_log last b.history } else record b { stage = ReadsAgain }))
+      by : (x : Bool) → Advanced (Goes (if x then record b { stage = first_log kept last; history = with_log last b.history } else record b { stage = ReadsAgain }))
       by true = record { risen = a.risen; above = a.above; tabled = a.tabled }
       by false = record { risen = a.risen; above = a.above; tabled = a.tabled }
+
+  -- a log file was looked at, or wasn't there
+  looked-advances : (l : VersionedManifest) (id last : ℕ) (batches : List Batch) (b : Begun) → Advances b → Advanced (looked_at kept l id last batches b)
+  looked-advances l id last batches b a = by (nat_lt (reached_number b + kept.lag) newest) (nat_lt (reached_number b) newest || id == b.mark + 1)
+    where
+      newest : ℕ
+      newest = greatest_number batches
+
+      by : (x y : Bool) → Advanced (if x then Goes (record b { stage = ReadsLog last }) else (if y then replayed l b else Goes (record b { stage = LooksAt (id - 1) last })))
+      by true y = record { risen = a.risen; above = a.above; tabled = a.tabled }
+      by false true = replayed-advances l b a
+      by false false = record { risen = a.risen; above = a.above; tabled = a.tabled }
+
+  pub looks-advance : (l : VersionedManifest) (id last : ℕ) (b : Begun) (log : Option (List Batch)) (turn : Turn) → Advances b → LooksTo kept l id last b log turn → Advanced turn
+  looks-advance l id last b None turn a turn_is = let cut : Advances (record b { stage = Ended }) = record { risen = a.risen; above = a.above; tabled = a.tabled } in subst Advanced (sym turn_is) cut
+  looks-advance l id last b (Some batches) turn a turn_is = subst Advanced (sym turn_is) (looked-advances l id last batches b a)
 
   -- a log file was read
   pub read-advances : (l : VersionedManifest) (last : ℕ) (fresh : List Batch) (b : Begun) → reached_number b ≤ b.floor + length fresh → Advances b →

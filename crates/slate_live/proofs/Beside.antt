@@ -20,12 +20,13 @@ use Rattle.slate_replay.specs.declared.replays.Replayed.{Replayed}
 use Rattle.slate_replay.specs.declared.replays.Replayed.TheVariants as replays
 use Rattle.slate_errors.specs.declared.errors.SlateError.{SlateError}
 use Rattle.slate_errors.specs.declared.errors.SlateError.TheVariants as errors
-use Rattle.slate_model.specs.Begun.{AsksLast, Begun, Breaks, Ended, Ends, Fails, Goes, Puts, ReadsAgain, ReadsLatest, ReadsLog, Stage, Turn, arrived, base_of, begun_at, decided, kept_batches, reached_number, replayed, view_of, no_step, noted, read_log, taken, with_latest, with_step}
+use Rattle.slate_model.specs.Begun.{AsksLast, Begun, Breaks, Ended, Ends, Fails, Goes, LooksAt, Puts, ReadsAgain, ReadsLatest, ReadsLog, Stage, Turn, arrived, base_of, begun_at, decided, kept_batches, reached_number, replayed, view_of, no_step, noted, read_log, taken, with_latest, with_step}
 use Rattle.slate_model.specs.Catalogue.{Catalogue, catalogue_of}
 use Rattle.slate_model.specs.declared.answers.PollAnswer.{PollAnswer}
 use Rattle.slate_model.specs.declared.answers.PollAnswer.TheVariants as answers
 use Rattle.slate_model.specs.declared.leases.Lease.{Lease}
 use Rattle.slate_model.specs.declared.polls.PollHistory.{PollHistory}
+use Rattle.slate_model.specs.Follow.{come_by}
 use Rattle.slate_model.specs.Follower.{Follower, is_managed, is_pinned, kept_follower, number, unsegmented}
 use Rattle.slate_model.specs.Followed.{IsView}
 use Rattle.slate_model.specs.Handle.{up_to}
@@ -33,7 +34,7 @@ use Rattle.slate_model.specs.Known.{Known}
 use Rattle.slate_model.specs.Object.{Follower as AFollower, Object}
 use Rattle.slate_model.specs.Seen.{HasSeen}
 use Rattle.slate_model.specs.Stood.{IsPlanned, WasLatest}
-use Rattle.slate_model.proofs.Coming.{Come, Comes, IsStagedNext, Ways, again-comes, arrived-kept, asked-comes, committed-comes, decided-comes, overtaken-comes, planned-other, read-on, replayed-comes, restaged, start-comes}
+use Rattle.slate_model.proofs.Coming.{Come, Comes, IsStagedNext, Ways, again-comes, arrived-kept, asked-comes, committed-comes, decided-comes, looked-comes, overtaken-comes, planned-other, read-on, replayed-comes, restaged, start-comes}
 use Rattle.slate_model.proofs.Free.{numbered-front}
 use Rattle.slate_model.proofs.Fronts.{fresh-within, front-begins, front-end, front-grown, numbered-take, reads-front, seen-as, seen-log, whole-front}
 use Rattle.slate_model.proofs.Keeping.{line_above-end}
@@ -41,28 +42,28 @@ use Rattle.slate_model.proofs.Maintained.{Maintained, put-latest}
 use Rattle.slate_model.proofs.Owing.{tabled, view-tables}
 use Rattle.slate_model.proofs.Prefixes.{prefix-end}
 use Rattle.slate_model.proofs.Putting.{free-at, put-maintains, was-put}
-use Rattle.slate_model.proofs.Logging.{LogsAre, LogsFollow, LogsGo, OfLine, stay-follow}
+use Rattle.slate_model.proofs.Logging.{LogsAre, LogsFollow, LogsGo, OfLine, PastLine, none-put_logs, stay-follow}
 use Rattle.slate_model.proofs.Stale.{latest-entry, stale-latest}
 use Rattle.slate_model.proofs.Reduced.{some-same}
 use Rattle.slate_follow.proofs.Following.{are-above, are-grown, begins-on, begins-rest, goes-on, log-begins, logs-of, no-gap-rises, others-keep}
 use Rattle.slate_follow.specs.Following.{AreOf, FollowsLine, IsReplaying, StandsAt}
 use Rattle.slate_follow.specs.Lasting.{Lasts, OthersAct}
 use Rattle.slate_follow.proofs.Lasting.{begins-last, follows-acts, lasts-goes, others-last}
-use Rattle.slate_follow.specs.Stepping.{FailsFrom, LeavesPut, Meets, MeetsAt, StepFails, Steps, log_turn, reads_latest}
+use Rattle.slate_follow.specs.Stepping.{FailsFrom, LeavesPut, LooksTo, Meets, MeetsAt, StepFails, Steps, log_turn, reads_latest}
 use Rattle.slate_script.specs.declared.commands.Command.{Command}
 use Rattle.slate_script.specs.declared.replies.Reply.{Reply}
 use Rattle.slate_live.specs.Settings.{Settings}
 use Rattle.slate_live.specs.Beside.{OthersLeaveThem, PollsBegin, ReadersStand, StandsAfter, StepsStand}
-use Rattle.slate_live.specs.Reaching.{IsCovered, IsCoveredBy, ReachesAt, ReachesTo}
+use Rattle.slate_live.specs.Reaching.{IsApart, IsCovered, IsCoveredBy, ReachesAt, ReachesTo}
 use Rattle.slate_live.specs.Rising.{FollowerRises}
 use Rattle.slate_live.specs.Standing.{IsBareAt, IsStaged, PollStands, StandsBeside, comes_to, placed, tabled_by}
-use Rattle.slate_live.proofs.Reaching.{Reaches, again-reaches, anew-then, asked-reaches, committed-reaches, content-covered, decided-reaches, overtaken-reaches, reaches-then, read-reaches, seen-covered}
+use Rattle.slate_live.proofs.Reaching.{AreLate, Reaches, again-reaches, anew-then, asked-reaches, committed-reaches, content-covered, decided-reaches, late-news, looked-reaches, overtaken-reaches, reaches-then, read-reaches, seen-covered}
 use Rattle.slate_live.specs.Represents.{AreOfPast, Holds, IsFollowerAt, IsHeld, IsReached, IsValid, RepresentsObjects}
 use Rattle.slate_live.specs.State.{Live}
 use Rattle.slate_live.specs.World.{NextWhole, World}
-use Rattle.slate_live.proofs.Advancing.{Advanced, Advances, IsAbove, again-advances, asked-advances, committed-advances, cut-advances, decided-advances, overtaken-advances, read-advances, start-advances}
+use Rattle.slate_live.proofs.Advancing.{Advanced, Advances, IsAbove, again-advances, asked-advances, committed-advances, cut-advances, decided-advances, looks-advance, overtaken-advances, read-advances, start-advances}
 use Rattle.slate_live.proofs.Cases.{if-some, is-none}
-use Rattle.slate_live.proofs.Following.{new-held, new-stored}
+use Rattle.slate_live.proofs.Following.{new-held, owed-lined, view-stored}
 use Rattle.slate_live.proofs.Chains.{reached}
 use Rattle.slate_live.proofs.Knowing.{unchanged-objects}
 use Rattle.slate_live.proofs.Leases.{entry-after, latest-after, nothing-spared}
@@ -117,13 +118,14 @@ module _ (w : World) (o : Objects) (sound : IsSound o) (holds : Holds o w) (vali
     latest-low : w.stored.floor ≤ tabled_at
     latest-low = subst (λ (x : Line). x.floor ≤ tabled_at) holds.stored (logs-of o l sound is).low
 
-    latest-high : tabled_at ≤ end w.stored
+    pub latest-high : tabled_at ≤ end w.stored
     latest-high = subst (λ (x : Line). tabled_at ≤ end x) holds.stored (tabled o l.manifest (content o) (view-tables o modes.FollowLatest false l sound goes) sound.line)
 
     latest-stands : (lease : Option Lease) → is_some lease ≡ is_managed reader.mode → P (tabled_by w.stored reader l lease)
     latest-stands lease leased =
-        let stored = new-stored [] w.stored modes.FollowLatest true false o l sound holds.stored goes l.manifest.replay_after_wal_id refl in
-        let held = new-held [] w.stored modes.FollowLatest true false o l sound holds.stored goes l.manifest.replay_after_wal_id refl in
+        let stored = view-stored w.stored modes.FollowLatest true false o l sound holds.stored goes in
+        let lined = owed-lined w.stored modes.FollowLatest true false o l sound holds.stored goes 0 l.manifest.replay_after_wal_id refl in
+        let held = new-held [] w.stored modes.FollowLatest true false 0 o l goes (up_to tabled_at w.stored) l.manifest.replay_after_wal_id lined in
         let here = front-end w.stored valid.line tabled_at latest-low latest-high in
         record {
           valid = (
@@ -249,6 +251,7 @@ module _ (w : World) (o : Objects) (sound : IsSound o) (holds : Holds o w) (vali
         staged-as : (stage : Stage) → IsStagedNext reader b stage → HasPlan b stage → IsStaged reader b stage
         staged-as (Puts next given replaces) staged planned = planned
         staged-as AsksLast staged planned = staged
+        staged-as (LooksAt id last) staged planned = staged
         staged-as (ReadsLog last) staged planned = staged
         staged-as ReadsAgain staged planned = staged
         staged-as ReadsLatest staged planned = tt
@@ -324,9 +327,9 @@ covered-same : (skips : Bool) (target : ℕ) (a b : VersionedManifest) (o : Obje
 covered-same true target a b o tabled mark low = omega (arith, tabled, low)
 covered-same false target a b o tabled mark covered = subst (λ n. IsCovered target n b.manifest.replay_after_wal_id o) (sym tabled) (subst (λ k. IsCovered target a.manifest.last_l0_seq k o) (sym mark) covered)
 
-staged-same : (target : ℕ) (o : Objects) (begun : Begun) (next : VersionedManifest) (given : Lease) (replaces : Bool) → ReachesAt (Puts next given replaces) target o begun → ReachesAt (Puts next given replaces) target o (taken begun)
-staged-same target o begun next given true r = r
-staged-same target o begun next given false r = r
+staged-same : (lag target : ℕ) (o : Objects) (begun : Begun) (next : VersionedManifest) (given : Lease) (replaces : Bool) → ReachesAt lag (Puts next given replaces) target o begun → ReachesAt lag (Puts next given replaces) target o (taken begun)
+staged-same lag target o begun next given true r = r
+staged-same lag target o begun next given false r = r
 
 module _ (live : Live) (store store' : Known (List Batch)) (w : World) (o o' : Objects) (sound : IsSound o) (holds : Holds o w) (valid : IsValid w) (reads : (n : ℕ) (x : Object) → slice_get w.objects n ≡ Some x → IsHeld o x)
     (r : RepresentsObjects live store w) (at' : store'.objects ≡ Some o') (reader : Follower) (live_is : reader.result ≡ None) (unpinned : is_pinned reader.mode ≡ false) (begun : Begun) (p : PollStands o w reader begun) where
@@ -341,11 +344,12 @@ module _ (live : Live) (store store' : Known (List Batch)) (w : World) (o o' : O
   staged-at stage is = subst (IsStaged reader begun) is p.staged
 
   -- ---- what it aims at
-  -- as much is stored, or in tables, and after its first step it reaches that
+  -- as much is stored, or in tables, or apart from what it has with those, and after its first step it reaches that
   pub record Aims (target : ℕ) : Type 0 where
-    pub stored : reader.skips ≡ false → target ≤ end w.stored
+    pub stored : target ≤ end w.stored
     pub tabled : reader.skips ≡ true → (l : VersionedManifest) → latest_manifest w.catalogue ≡ Some l → target ≤ l.manifest.last_l0_seq
-    pub before : (begun.stage ≡ ReadsLatest) ⊎ (((l : VersionedManifest) → begun.latest ≡ Some l → IsCoveredBy reader.skips target l o) × ReachesAt begun.stage target o begun)
+    pub apart : reader.skips ≡ false → (l : VersionedManifest) → latest_manifest w.catalogue ≡ Some l → IsApart reader.lag target (come_by reader l)
+    pub before : (begun.stage ≡ ReadsLatest) ⊎ (((l : VersionedManifest) → begun.latest ≡ Some l → IsCoveredBy reader.skips target l o) × ReachesAt reader.lag begun.stage target o begun)
 
   -- ---- the objects go on
   same-maintained : o' ≡ o → Maintained o o'
@@ -359,6 +363,7 @@ module _ (live : Live) (store store' : Known (List Batch)) (w : World) (o o' : O
       subst (Maintained o) (sym put.1) (put-maintains o sound staged.0 next read.0 (staged-planned reader begun next given replaces staged) put.0).0
   left-maintained ReadsLatest is same = same-maintained same
   left-maintained AsksLast is same = same-maintained same
+  left-maintained (LooksAt id last) is same = same-maintained same
   left-maintained (ReadsLog last) is same = same-maintained same
   left-maintained ReadsAgain is same = same-maintained same
   left-maintained Ended is same = same-maintained same
@@ -368,6 +373,7 @@ module _ (live : Live) (store store' : Known (List Batch)) (w : World) (o o' : O
   meets-left (Puts next given replaces) turn (inl m) = inr (m.0, m.2)
   meets-left (Puts next given replaces) turn (inr m) = inl m.2
   meets-left AsksLast turn m = m.1
+  meets-left (LooksAt id last) turn m = m.3
   meets-left (ReadsLog last) turn m = m.6
   meets-left ReadsAgain turn m = m.3
   meets-left Ended turn m = absurd m
@@ -379,6 +385,7 @@ module _ (live : Live) (store store' : Known (List Batch)) (w : World) (o o' : O
       none-left ReadsLatest reads same = same
       none-left ReadsAgain reads same = same
       none-left AsksLast reads same = same
+      none-left (LooksAt id last) reads same = same
       none-left (ReadsLog last) reads same = same
       none-left (Puts next given replaces) reads same = inl same
       none-left Ended reads same = same
@@ -548,6 +555,13 @@ module _ (live : Live) (store store' : Known (List Batch)) (w : World) (o o' : O
     meets-came AsksLast turn at (turn_is, same) =
         subst Came (sym turn_is)
         (asked-comes w.stored valid.line o' reader Q (WasLatest o') (ways w' o' m.sound holds-then valid-then reads-then reader unpinned) (last_log begun.mark o) (taken begun) (begun-then (was-same same)) (staged-at AsksLast at))
+    meets-came (LooksAt id last) turn at (l, read, looks, same) = by (log_at id o) looks
+      where
+        by : (log : Option (List Batch)) → LooksTo kept_one l id last (taken begun) log turn → Came turn
+        by None turn_is = subst Came (sym turn_is) (begun-then (was-same same))
+        by (Some batches) turn_is =
+            subst Came (sym turn_is)
+            (looked-comes w.stored valid.line o' reader Q (WasLatest o') (ways w' o' m.sound holds-then valid-then reads-then reader unpinned) l id last batches (taken begun) read (begun-then (was-same same)) (staged-at (LooksAt id last) at))
     meets-came (ReadsLog last) turn at (l, fresh, replays.Whole, read, n, turn_is, same) = subst Came (sym turn_is) (whole-read l last fresh at read same n)
     meets-came (ReadsLog last) turn at (l, fresh, (replays.Truncated id), read, n, turn_is, same) = subst Came (sym turn_is) (cut-read l last fresh at read same id n)
     meets-came ReadsAgain turn at (l, is, turn_is, same) =
@@ -601,6 +615,7 @@ module _ (live : Live) (store store' : Known (List Batch)) (w : World) (o o' : O
         (committed-advances reader same_number next given replaces (taken begun) p.risen (omega (arith, tabled, base), λ skips. let low = p.tabled skips staged.0 staged.1 in omega (arith, tabled, low)))
     meets-advances (Puts next given replaces) turn at (inr (there, turn_is, same)) = subst (Advanced reader same_number) (sym turn_is) (overtaken-advances reader same_number (taken begun))
     meets-advances AsksLast turn at (turn_is, same) = subst (Advanced reader same_number) (sym turn_is) (asked-advances reader same_number (last_log begun.mark o) (taken begun) advances)
+    meets-advances (LooksAt id last) turn at (l, read, looks, same) = looks-advance reader same_number l id last (taken begun) (log_at id o) turn advances looks
     meets-advances (ReadsLog last) turn at (l, fresh, replays.Whole, read, n, turn_is, same) = subst (Advanced reader same_number) (sym turn_is) (read-advances reader same_number l last fresh (taken begun) (log-up replays.Whole fresh n) advances)
     meets-advances (ReadsLog last) turn at (l, fresh, (replays.Truncated id), read, n, turn_is, same) = subst (Advanced reader same_number) (sym turn_is) (cut-advances reader same_number fresh (taken begun) (log-up (replays.Truncated id) fresh n) advances)
     meets-advances ReadsAgain turn at (l, is, turn_is, same) = subst (Advanced reader same_number) (sym turn_is) (again-advances reader same_number l (taken begun) advances (latest-above l is))
@@ -615,8 +630,11 @@ module _ (live : Live) (store store' : Known (List Batch)) (w : World) (o o' : O
         (stay-follow o o' l.manifest.replay_after_wal_id (next.0).manifest.replay_after_wal_id (sym next.4) (m.logs l is))
 
     module _ (target : ℕ) (aims : Aims target) where
-      within-content : reader.skips ≡ false → target ≤ end (content o)
-      within-content reads = subst (λ (x : Line). target ≤ end x) (sym holds.stored) (aims.stored reads)
+      within-content : target ≤ end (content o)
+      within-content = subst (λ (x : Line). target ≤ end x) (sym holds.stored) aims.stored
+
+      none-new : LogsAre (AreLate target) o o'
+      none-new = none-put_logs o o' m.logs_are (AreLate target)
 
       in-catalogue : (l : VersionedManifest) → latest_manifest o ≡ Some l → latest_manifest w.catalogue ≡ Some l
       in-catalogue l is = sym (ap latest_manifest holds.catalogue) ∙ is
@@ -627,14 +645,28 @@ module _ (live : Live) (store store' : Known (List Batch)) (w : World) (o o' : O
         where
           by : (skips : Bool) → reader.skips ≡ skips → IsCoveredBy skips target l o
           by true skips = aims.tabled skips l (in-catalogue l is)
-          by false reads = content-covered o sound l is target (within-content reads)
+          by false reads = content-covered o sound l is target within-content
 
       latest-covered : (l : VersionedManifest) → latest_manifest o ≡ Some l → IsCovered target (max (reached_number begun) l.manifest.last_l0_seq) (max begun.mark l.manifest.replay_after_wal_id) o
       latest-covered l is = by reader.skips refl
         where
           by : (skips : Bool) → reader.skips ≡ skips → IsCovered target (max (reached_number begun) l.manifest.last_l0_seq) (max begun.mark l.manifest.replay_after_wal_id) o
           by true skips = inl (let low = aims.tabled skips l (in-catalogue l is) in omega (arith, low))
-          by false reads = seen-covered o sound l is target kept_one begun (within-content reads) p.lasts.seen
+          by false reads = seen-covered o sound l is target kept_one begun within-content p.lasts.seen
+
+      -- before anything was read it has what its reader has
+      latest-apart : begun.stage ≡ ReadsLatest → (l : VersionedManifest) → latest_manifest o ≡ Some l → IsApart reader.lag target (max (reached_number begun) l.manifest.last_l0_seq)
+      latest-apart at l is = by reader.skips refl
+        where
+          reached_is : reached_number begun ≡ number kept_one + 0
+          reached_is = ap (λ (b : Begun). reached_number b) (p.anew at)
+
+          by : (skips : Bool) → reader.skips ≡ skips → IsApart reader.lag target (max (reached_number begun) l.manifest.last_l0_seq)
+          by true skips = inl (let low = aims.tabled skips l (in-catalogue l is) in omega (arith, low))
+          by false reads = elim (aims.apart reads l (in-catalogue l is)) [
+            | inl low ↦ inl (let same = same_number in omega (arith, low, reached_is, same))
+            | inr far ↦ inr (let same = same_number in omega (arith, far, reached_is, same))
+          ]
 
       -- after the first step
       anew-by : (begun.stage ≡ ReadsLatest → ⊥) → (l : VersionedManifest) → begun.latest ≡ Some l → IsCoveredBy reader.skips target l o
@@ -643,16 +675,16 @@ module _ (live : Live) (store store' : Known (List Batch)) (w : World) (o o' : O
         | inr before ↦ before.0 l is
       ]
 
-      next-by : (stage : Stage) → begun.stage ≡ stage → (begun.stage ≡ ReadsLatest → ⊥) → ReachesAt stage target o begun
+      next-by : (stage : Stage) → begun.stage ≡ stage → (begun.stage ≡ ReadsLatest → ⊥) → ReachesAt reader.lag stage target o begun
       next-by stage at later = elim aims.before [
         | inl first ↦ absurd (later first)
-        | inr before ↦ subst (λ x. ReachesAt x target o begun) at before.1
+        | inr before ↦ subst (λ x. ReachesAt reader.lag x target o begun) at before.1
       ]
 
       meets-reaches : (stage : Stage) (turn : Turn) → begun.stage ≡ stage → MeetsAt stage kept_one (taken begun) o turn o' → Reaches target o' kept_one turn
       meets-reaches ReadsLatest turn at (l, is, turn_is, same) =
           let unviewed : begun.view ≡ None = subst (λ (x : Stage). StandsAt x begun w.stored o) at p.follows.next in
-          subst (λ x. Reaches target x kept_one turn) (sym same) (subst (Reaches target o kept_one) (sym turn_is) (decided-reaches target o kept_one l begun.lease (noted l (taken begun)) unviewed (latest-anew l is) (latest-covered l is)))
+          subst (λ x. Reaches target x kept_one turn) (sym same) (subst (Reaches target o kept_one) (sym turn_is) (decided-reaches target o kept_one l begun.lease (noted l (taken begun)) unviewed (latest-anew l is) (latest-covered l is) (latest-above l is).0 (latest-apart at l is)))
       meets-reaches (Puts next given replaces) turn at (inl (free, turn_is, put)) =
           let staged = staged-at (Puts next given replaces) at in
           let other = planned-other staged.0 next (staged-planned reader begun next given replaces staged) in
@@ -661,15 +693,26 @@ module _ (live : Live) (store store' : Known (List Batch)) (w : World) (o o' : O
           let l' = m.latest l.0 l.1 in
           let follows = follows-then l.0 l'.0 l.1 l'.1 in
           let goes = m.goes (last_log (l.0).manifest.replay_after_wal_id o) in
-          let anew = anew-then target o o' l.0 l'.0 l.1 l'.1 follows goes reader.skips staged.0 (anew-by later staged.0 staged.1) in
+          let tabled : next.manifest.last_l0_seq ≡ (staged.0).manifest.last_l0_seq = ap (λ (v : VersionedManifest). v.manifest.last_l0_seq) other.1 in
+          let base = p.above staged.0 staged.1 in
+          let anew = anew-then target o o' l.0 l'.0 l.1 l'.1 follows goes none-new reader.skips staged.0 (anew-by later staged.0 staged.1) in
           let next_anew : IsCoveredBy reader.skips target next o' = subst (λ v. IsCoveredBy reader.skips target v o') (sym other.1) (covered-same reader.skips target staged.0 (with_checkpoints other.0 staged.0) o' refl refl anew) in
           subst (Reaches target o' kept_one) (sym turn_is)
-          (committed-reaches target o' kept_one next given replaces (taken begun) next_anew (staged-same target o' begun next given replaces (reaches-then target o o' l.0 l'.0 l.1 l'.1 follows goes begun (Puts next given replaces) (next-by (Puts next given replaces) at later))))
+          (committed-reaches target o' kept_one next given replaces (taken begun) next_anew (omega (arith, tabled, base)) (staged-same reader.lag target o' begun next given replaces (reaches-then target o o' l.0 l'.0 l.1 l'.1 follows goes none-new reader.lag begun (Puts next given replaces) (next-by (Puts next given replaces) at later))))
       meets-reaches (Puts next given replaces) turn at (inr (there, turn_is, same)) = subst (Reaches target o' kept_one) (sym turn_is) (overtaken-reaches target o' kept_one (taken begun))
       meets-reaches AsksLast turn at (turn_is, same) =
           let later : begun.stage ≡ ReadsLatest → ⊥ = λ first. (let no : AsksLast ≡ ReadsLatest = sym at ∙ first in cc) in
           let l = p.lasts.latest in
-          subst (λ x. Reaches target x kept_one turn) (sym same) (subst (Reaches target o kept_one) (sym turn_is) (asked-reaches target o kept_one sound l.0 l.1 (taken begun) (anew-by later) (next-by AsksLast at later)))
+          let r = next-by AsksLast at later in
+          subst (λ x. Reaches target x kept_one turn) (sym same) (subst (Reaches target o kept_one) (sym turn_is) (asked-reaches target o kept_one sound l.0 l.1 (taken begun) (anew-by later) r.0 r.1))
+      meets-reaches (LooksAt id last) turn at (l, read, looks, same) = subst (λ x. Reaches target x kept_one turn) (sym same) (by (log_at id o) refl looks)
+        where
+          later : begun.stage ≡ ReadsLatest → ⊥
+          later first = (let no : LooksAt id last ≡ ReadsLatest = sym at ∙ first in cc)
+
+          by : (log : Option (List Batch)) → log_at id o ≡ log → LooksTo kept_one l id last (taken begun) log turn → Reaches target o kept_one turn
+          by None none turn_is = subst (Reaches target o kept_one) (sym turn_is) tt
+          by (Some batches) stored turn_is = subst (Reaches target o kept_one) (sym turn_is) (looked-reaches target o kept_one l id last batches (taken begun) (anew-by later) stored (next-by (LooksAt id last) at later))
       meets-reaches (ReadsLog last) turn at (l, fresh, replays.Truncated id, read, n, turn_is, same) = subst (Reaches target o' kept_one) (sym turn_is) tt
       meets-reaches (ReadsLog last) turn at (l, fresh, replays.Whole, read, n, turn_is, same) =
           subst (λ x. Reaches target x kept_one turn) (sym same) (subst (Reaches target o kept_one) (sym turn_is) (by (log_at (begun.mark + 1) o) refl n.ends))
@@ -698,6 +741,15 @@ module _ (live : Live) (store store' : Known (List Batch)) (w : World) (o o' : O
                 let number = l'.3 in
                 let same = ap (λ (v : VersionedManifest). v.manifest.last_l0_seq) (some-same l'.0 found (sym l'.1 ∙ at)) in
                 omega (arith, low, number, same);
+            apart = λ reads found at.
+                let l = p.lasts.latest in
+                let l' = m.latest l.0 l.1 in
+                let number = l'.3 in
+                let same = ap (λ (v : VersionedManifest). v.manifest.last_l0_seq) (some-same l'.0 found (sym l'.1 ∙ at)) in
+                elim (aims.apart reads l.0 (in-catalogue l.0 l.1)) [
+                  | inl low ↦ inl (omega (arith, low, number, same))
+                  | inr far ↦ inr (omega (arith, far, number, same))
+                ];
             anew = r.0;
             next = r.1;
           }
@@ -735,6 +787,7 @@ module _ (live : Live) (store store' : Known (List Batch)) (w : World) (o o' : O
       record {
         mode = refl;
         skips = refl;
+        lag = refl;
         number = (let low = c.low in let risen = a.risen in let here = front-end w.stored valid.line (reached_number last) (omega (arith, low)) c.within in omega (arith, risen, here));
         result = is-none (λ q. reader.result ≡ Some q) reader.result live_is;
       },
@@ -798,6 +851,7 @@ module _ (live : Live) (store store' : Known (List Batch)) (w : World) (o o' : O
           subst (λ x. WasLatest x last) (sym put.1) (was-put o sound staged.0 next (p.read staged.0 staged.1).0 (staged-planned reader begun next given replaces staged) put.0 last was)
       by ReadsLatest is same = unchanged same
       by AsksLast is same = unchanged same
+      by (LooksAt id last) is same = unchanged same
       by (ReadsLog last) is same = unchanged same
       by ReadsAgain is same = unchanged same
       by Ended is same = unchanged same
@@ -815,6 +869,7 @@ module _ (live : Live) (store store' : Known (List Batch)) (w : World) (o o' : O
           subst (λ x. IsLatestBut x latest) (sym put.1) (put-leaves o sound staged.0 next (p.read staged.0 staged.1).0 (staged-planned reader begun next given replaces staged) put.0 latest there)
       by ReadsLatest is same = unchanged same
       by AsksLast is same = unchanged same
+      by (LooksAt id last) is same = unchanged same
       by (ReadsLog last) is same = unchanged same
       by ReadsAgain is same = unchanged same
       by Ended is same = unchanged same
@@ -936,16 +991,25 @@ module _ (settings : Settings) (w w' : World) (command : Command) (reply : Reply
     }
 
 -- a poll of a reader that reaches a number still does after what others did
-pub reaches-on : (target : ℕ) (w w' : World) (o o' : Objects) (l next : VersionedManifest) → latest_manifest o ≡ Some l → latest_manifest o' ≡ Some next → Holds o w → Holds o' w' → IsPrefix w.stored w'.stored → l.manifest.last_l0_seq ≤ next.manifest.last_l0_seq →
-    LogsFollow o o' l.manifest.replay_after_wal_id next.manifest.replay_after_wal_id → LogsGo (last_log l.manifest.replay_after_wal_id o) o o' → (reader : Follower) (begun : Begun) → ReachesTo target o w reader begun → ReachesTo target o' w' reader begun
-reaches-on target w w' o o' l next is is' holds holds' grows tabled follows goes reader begun r = record {
-  stored = λ reads. (let low = r.stored reads in let up = prefix-end w.stored w'.stored grows in omega (arith, low, up));
+pub reaches-on : (target : ℕ) (w w' : World) (o o' : Objects) (l next : VersionedManifest) → latest_manifest o ≡ Some l → latest_manifest o' ≡ Some next → Holds o w → Holds o' w' → IsPrefix w.stored w'.stored → l.manifest.last_l0_seq ≤ next.manifest.last_l0_seq → (next.manifest.last_l0_seq ≡ l.manifest.last_l0_seq) ⊎ (end w.stored ≤ next.manifest.last_l0_seq) →
+    LogsFollow o o' l.manifest.replay_after_wal_id next.manifest.replay_after_wal_id → LogsGo (last_log l.manifest.replay_after_wal_id o) o o' → LogsAre (PastLine w.stored) o o' → (reader : Follower) (begun : Begun) → ReachesTo target o w reader begun → ReachesTo target o' w' reader begun
+reaches-on target w w' o o' l next is is' holds holds' grows tabled leaps follows goes news reader begun r = record {
+  stored = (let low = r.stored in let up = prefix-end w.stored w'.stored grows in omega (arith, low, up));
   tabled = λ skips found at.
       let low = r.tabled skips l (sym (ap latest_manifest holds.catalogue) ∙ is) in
       let same = ap (λ (v : VersionedManifest). v.manifest.last_l0_seq) (some-same next found (sym is' ∙ (ap latest_manifest holds'.catalogue ∙ at))) in
       omega (arith, low, tabled, same);
-  anew = λ m at. anew-then target o o' l next is is' follows goes reader.skips m (r.anew m at);
-  next = reaches-then target o o' l next is is' follows goes begun begun.stage r.next;
+  apart = λ reads found at.
+      let same = ap (λ (v : VersionedManifest). v.manifest.last_l0_seq) (some-same next found (sym is' ∙ (ap latest_manifest holds'.catalogue ∙ at))) in
+      elim leaps [
+        | inl kept ↦ elim (r.apart reads l (sym (ap latest_manifest holds.catalogue) ∙ is)) [
+          | inl low ↦ inl (omega (arith, low, kept, same))
+          | inr far ↦ inr (omega (arith, far, kept, same))
+        ]
+        | inr past ↦ inl (let high = r.stored in omega (arith, high, past, same))
+      ];
+  anew = λ m at. anew-then target o o' l next is is' follows goes (late-news target w.stored o o' r.stored news) reader.skips m (r.anew m at);
+  next = reaches-then target o o' l next is is' follows goes (late-news target w.stored o o' r.stored news) reader.lag begun begun.stage r.next;
 }
 
 pub reaches-beside : (settings : Settings) (live live' : Live) (store store' : Known (List Batch)) (w w' : World) (command : Command) (reply : Reply) → RepresentsObjects live store w → (next : NextWhole settings w command reply w') → RepresentsObjects live' store' w' → BesideThen store w store' w' →
@@ -957,7 +1021,7 @@ reaches-beside settings live live' store store' w w' command reply r next r' bes
     let go = (beside o o' reader at at').2 l.0 l.1 in
     let f = go.1 in
     if-some begun.history.first (λ _. ReachesTo (w.owed n) o w reader begun) (λ _. ReachesTo (w'.owed n) o' w' reader begun)
-    (λ _ r. subst (λ (owed : ℕ → ℕ). ReachesTo (owed n) o' w' reader begun) (sym next.owed) (reaches-on (w.owed n) w w' o o' l.0 go.0 l.1 f.latest_is h.1 h'.1 f.grows f.tabled f.logs f.goes reader begun r)) reaches
+    (λ _ r. subst (λ (owed : ℕ → ℕ). ReachesTo (owed n) o' w' reader begun) (sym next.owed) (reaches-on (w.owed n) w w' o o' l.0 go.0 l.1 f.latest_is h.1 h'.1 f.grows f.tabled f.leaps f.logs f.goes f.news reader begun r)) reaches
 
 -- what others do leaves a begun poll standing
 pub polls-beside : (settings : Settings) (live live' : Live) (store store' : Known (List Batch)) (w w' : World) (command : Command) (reply : Reply) → RepresentsObjects live store w → NextWhole settings w command reply w' → RepresentsObjects live' store' w' → BesideThen store w store' w' →

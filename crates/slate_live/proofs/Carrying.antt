@@ -50,7 +50,7 @@ use Rattle.slate_script.specs.declared.commands.Command.{Command}
 use Rattle.slate_script.specs.declared.replies.Reply.{Reply}
 use Rattle.slate_live.specs.declared.states.Write.{Write}
 use Rattle.slate_live.specs.Calls.{Call, Write as WriteCall, Merge as MergeCall, Flush, Refresh, Compact, Get, Scan, Seek, Close, Poll, Status, FindTime, FindNumber, Nothing, call_of, Target, NewHandle, NewSnapshot, NewFollower, NewCheckpoint, WholeStore, OfWrite, OfObject, at_snapshot, target_of}
-use Rattle.slate_live.specs.Commands.{ActsAt, ActsOn, DoesBy, OpensSnapshot, ReadsSnapshot, interval_of, lifetime_of}
+use Rattle.slate_live.specs.Commands.{ActsAt, ActsOn, DoesBy, OpensSnapshot, ReadsSnapshot, interval_of, lag_of, lifetime_of}
 use Rattle.slate_live.specs.Followers.{ClosesAs, FollowerActs, PollsAs}
 use Rattle.slate_live.specs.Handles.{HandleActs}
 use Rattle.slate_live.specs.Represents.{IsValid}
@@ -270,8 +270,8 @@ module _ (P : Manifest → Type 0) (settings : Settings) (w : World) (valid : Is
   opened-made n None d = state-before d.2
 
   -- an opening of a reader that keeps a checkpoint
-  took-made : (lifetime interval : ℕ) (skips : Bool) (r : Result (Follower × PollAnswer) SlateError) → OpensManaged k settings.extractor made lifetime interval skips command.moment (state_of w).store r s'.store → Changes
-  took-made lifetime interval skips r d =
+  took-made : (lifetime interval : ℕ) (skips : Bool) (lag : ℕ) (r : Result (Follower × PollAnswer) SlateError) → OpensManaged k settings.extractor made lifetime interval skips lag command.moment (state_of w).store r s'.store → Changes
+  took-made lifetime interval skips lag r d =
       by-option (lease_refusal lifetime interval)
       (λ none. let t = ((d.takes none).puts).some w.catalogue refl in changes _ t.0 t.1 (t.2).after (planned (to_take lifetime command.moment) (take-recheckpoints lifetime command.moment latest) (taken lifetime)))
       (λ error refused. as-before (some-of (λ error. (r ≡ Err error) × Untouched made (state_of w).store s'.store) (lease_refusal lifetime interval) error refused d.refused).1.1)
@@ -281,9 +281,9 @@ module _ (P : Manifest → Type 0) (settings : Settings) (w : World) (valid : Is
       let t = ((d.does).opens).some w.catalogue refl in
       changes _ t.0 t.1 (t.2).after (open-carries P (extractor_name settings.extractor) k.summary w.catalogue latest is (spares.opened (extractor_name settings.extractor) _))
   made-by (NewSnapshot n) names d = opened-made n (slice_get w.objects n) d
-  made-by (NewFollower modes.FollowLatest managed skips) names d = unchanged ((d.0).does).kept
-  made-by (NewFollower (modes.Checkpoint id) managed skips) names d = unchanged ((d.0).does).kept
-  made-by (NewFollower modes.ManagedCheckpoint managed skips) names d = took-made (lifetime_of managed) (interval_of managed) skips d.result d.does
+  made-by (NewFollower modes.FollowLatest managed skips lag) names d = unchanged ((d.0).does).kept
+  made-by (NewFollower (modes.Checkpoint id) managed skips lag) names d = unchanged ((d.0).does).kept
+  made-by (NewFollower modes.ManagedCheckpoint managed skips lag) names d = took-made (lifetime_of managed) (interval_of managed) skips (lag_of lag) d.result d.does
   made-by (NewCheckpoint lifetime) names d =
       let t = (((d.does).does).objects).some w.catalogue refl in
       changes _ t.0 t.1 (t.2).after (planned (to_write None lifetime command.moment) (write-recheckpoints None lifetime command.moment latest) (added lifetime))

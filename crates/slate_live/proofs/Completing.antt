@@ -25,7 +25,7 @@ use Rattle.slate_errors.specs.declared.endings.Ended.{Ended}
 use Rattle.slate_errors.specs.declared.endings.TaskName.{TaskName}
 use Rattle.slate_model.specs.declared.leases.Lease.{Lease}
 use Rattle.slate_model.specs.Lease.{lease_refusal, to_keep, to_take}
-use Rattle.slate_model.specs.Managed.{KeepRefusal, KeepsLease, OpensManaged, PlanCause, PollsLeased, PollsTwice, RenewalCause, TakeRefusal}
+use Rattle.slate_model.specs.Managed.{KeepRefusal, KeepsLease, OpensManaged, PlanCause, PollsLeased, PollsTwice, RenewalCause, TakeRefusal, follower_under}
 use Rattle.slate_model.proofs.Leased.{written-is}
 use Rattle.slate_model.proofs.Rounds.{took}
 use Rattle.slate_store.specs.declared.refusals.StoreRefusal.TheVariants as refusals
@@ -35,12 +35,13 @@ use Rattle.slate_model.specs.Close.{Closes, closing_flush, ended, fault_again, r
 use Rattle.slate_model.specs.declared.answers.PollAnswer.{PollAnswer}
 use Rattle.slate_model.specs.declared.answers.Written.{Written}
 use Rattle.slate_model.specs.Flush.{FlushCause, Flushes, ManifestCause, Stores, has_ids}
-use Rattle.slate_model.specs.Follow.{unseen, AreFollowed, FollowCause, IsOwed, LacksSegment, Polls, Rebuilds, ReplayRefuses, built}
+use Rattle.slate_model.specs.Follow.{unseen, AreFollowed, FollowCause, IsOwed, LacksSegment, Polls, Rebuilds, ReplayRefuses, SeesOwed, SeesPolled, built}
 use Rattle.slate_model.specs.Followed.{IsView, RefusesLatest, follow_refusal, kept_by, view_under}
 use Rattle.slate_model.specs.Follower.{Follower, is_managed, is_pinned}
 use Rattle.slate_store.specs.Checkpoints.{Plan, found, lease_end, to_delete, to_refresh}
 use Rattle.std.specs.Option.{unwrap_or}
 use Rattle.slate_live.proofs.Filling.{end-full}
+use Rattle.slate_live.proofs.Following.{polled-answer}
 use Rattle.slate_store.specs.Refusals.{PlanIs}
 use Rattle.slate_store.specs.declared.reader_modes.DbReaderMode.{DbReaderMode}
 use Rattle.slate_store.specs.declared.reader_modes.DbReaderMode.TheVariants as modes
@@ -68,7 +69,7 @@ use Rattle.slate_script.specs.declared.replies.Reply.{Reply}
 use Rattle.slate_script.specs.declared.replies.Reply.TheVariants as replies
 use Rattle.slate_live.specs.declared.states.Write.{Write}
 use Rattle.slate_live.specs.Calls.{Whole, Call, Write as WriteCall, Merge as MergeCall, Flush, Refresh, Compact, Get, Scan, Seek, Close, Poll, Status, FindTime, FindNumber, Nothing, call_of, Target, NewHandle, NewSnapshot, NewFollower, NewCheckpoint, WholeStore, OfWrite, OfObject, at_snapshot, target_of}
-use Rattle.slate_live.specs.Commands.{ActsAt, ActsOn, DoesBy, OpensSnapshot, ReadsSnapshot, asked_reply, interval_of, lifetime_of, write_reply}
+use Rattle.slate_live.specs.Commands.{ActsAt, ActsOn, DoesBy, OpensSnapshot, ReadsSnapshot, asked_reply, interval_of, lag_of, lifetime_of, write_reply}
 use Rattle.slate_live.specs.Followers.{ClosesAs, FollowerActs, PollsAs}
 use Rattle.slate_live.specs.Handles.{HandleActs, MergesTo, WritesTo, flush_type_by, pending_reply}
 use Rattle.slate_live.specs.Replies.{AnswersStatus, IsRead, closed_reply, ended_reply, follower_closed_reply, follower_ended_reply, followed_reply, found_reply, polled_reply, refusal, reply_to}
@@ -330,16 +331,16 @@ follow-cause ext w mode opening faults errors.NoMemory cause fault can fits poll
 follow-cause ext w mode opening faults error cause fault can fits polled keyed calm = absurd cause
 
 -- an opening that finds a segment for each key
-rebuild-free : (ext : Option Extractor) (w w' : World) (mode : DbReaderMode) (skips : Bool) (r : Result (Follower × PollAnswer) SlateError) → Rebuilds (by_catalogue w.stored w.catalogue) ext mode skips true unseen (state_of w).store r (state_of w').store → CanFollow mode true w → CanReplay ext mode skips w → (HasRisen w.faults w'.faults → ⊥) → IsFree r
-rebuild-free ext w w' mode skips (Ok b) d can fits calm = tt
-rebuild-free ext w w' mode skips (Err e) d can fits calm =
+rebuild-free : (ext : Option Extractor) (w w' : World) (mode : DbReaderMode) (skips : Bool) (lag : ℕ) (r : Result (Follower × PollAnswer) SlateError) → Rebuilds (by_catalogue w.stored w.catalogue) ext mode skips true lag (SeesOwed (by_catalogue w.stored w.catalogue) mode skips lag) unseen (state_of w).store r (state_of w').store → CanFollow mode true w → CanReplay ext mode skips w → (HasRisen w.faults w'.faults → ⊥) → IsFree r
+rebuild-free ext w w' mode skips lag (Ok b) d can fits calm = tt
+rebuild-free ext w w' mode skips lag (Err e) d can fits calm =
     follow-cause ext w mode true w'.faults e d.cause d.faults can fits.0 (λ polled is. absurd (cc))
     (λ key opened is. replays-once ext w mode skips key (subst (λ x. AreFollowed {A = Follower × PollAnswer} (by_catalogue w.stored w.catalogue) ext mode skips true w.catalogue w.stored (Err x)) is (d.segmented w.catalogue w.stored refl refl tt)) fits.1) calm
 
 -- and a poll of a reader that lacks none
-repoll-free : (ext : Option Extractor) (w w' : World) (mode : DbReaderMode) (skips : Bool) (r : Result (Follower × PollAnswer) SlateError) → Rebuilds (by_catalogue w.stored w.catalogue) ext mode skips false (λ objects line. Unit {0}) (state_of w).store r (state_of w').store → CanFollow mode false w → (LacksSegment (by_catalogue w.stored w.catalogue) ext mode skips false w.catalogue w.stored → ⊥) → (HasRisen w.faults w'.faults → ⊥) → IsFree r
-repoll-free ext w w' mode skips (Ok b) d can lacks calm = tt
-repoll-free ext w w' mode skips (Err e) d can lacks calm =
+repoll-free : (ext : Option Extractor) (w w' : World) (mode : DbReaderMode) (skips : Bool) (lag : ℕ) (Sees : Catalogue → Line → Follower → PollAnswer → Type 0) (r : Result (Follower × PollAnswer) SlateError) → Rebuilds (by_catalogue w.stored w.catalogue) ext mode skips false lag Sees (λ objects line. Unit {0}) (state_of w).store r (state_of w').store → CanFollow mode false w → (LacksSegment (by_catalogue w.stored w.catalogue) ext mode skips false w.catalogue w.stored → ⊥) → (HasRisen w.faults w'.faults → ⊥) → IsFree r
+repoll-free ext w w' mode skips lag Sees (Ok b) d can lacks calm = tt
+repoll-free ext w w' mode skips lag Sees (Err e) d can lacks calm =
     follow-cause ext w mode false w'.faults e d.cause d.faults can (can.1.0, can.1.1, refl)
     (λ polled is. lacks (subst (λ x. AreFollowed {A = Follower × PollAnswer} (by_catalogue w.stored w.catalogue) ext mode skips false w.catalogue w.stored (Err x)) is (d.segmented w.catalogue w.stored refl refl tt)))
     (λ key opened is. absurd (cc)) calm
@@ -373,22 +374,22 @@ sweep-free w after faults moment (Err errors.NoMemory) answer counts can calm = 
 sweep-free w after faults moment (Err error) answer counts can calm = absurd answer
 
 -- over an honest store nothing is missing
-follow-reply : (ext : Option Extractor) (w w' : World) (mode : DbReaderMode) (skips : Bool) (n : ℕ) (r : Result (Follower × PollAnswer) SlateError) → Rebuilds (by_catalogue w.stored w.catalogue) ext mode skips true unseen (state_of w).store r (state_of w').store → CanFollow mode true w × CanReplay ext mode skips w → (HasRisen w.faults w'.faults → ⊥) → IsOkOrNoMemory (reply_to (λ (b : Follower × PollAnswer). followed_reply n b.1) r)
-follow-reply ext w w' mode skips n (Ok b) r can calm =
+follow-reply : (ext : Option Extractor) (w w' : World) (mode : DbReaderMode) (skips : Bool) (lag : ℕ) (n : ℕ) (r : Result (Follower × PollAnswer) SlateError) → Rebuilds (by_catalogue w.stored w.catalogue) ext mode skips true lag (SeesOwed (by_catalogue w.stored w.catalogue) mode skips lag) unseen (state_of w).store r (state_of w').store → CanFollow mode true w × CanReplay ext mode skips w → (HasRisen w.faults w'.faults → ⊥) → IsOkOrNoMemory (reply_to (λ (b : Follower × PollAnswer). followed_reply n b.1) r)
+follow-reply ext w w' mode skips lag n (Ok b) r can calm =
     let all = r.sees w.catalogue w.stored refl refl tt in
     subst (λ a. IsOkOrNoMemory (followed_reply n a)) (sym all.3) tt
-follow-reply ext w w' mode skips n (Err e) r (can, fits) calm = subst (λ x. IsOkOrNoMemory (refusal x)) (sym (rebuild-free ext w w' mode skips (Err e) r can fits calm)) tt
+follow-reply ext w w' mode skips lag n (Err e) r (can, fits) calm = subst (λ x. IsOkOrNoMemory (refusal x)) (sym (rebuild-free ext w w' mode skips lag (Err e) r can fits calm)) tt
 
-poll-reply : (ext : Option Extractor) (w w' : World) (mode : DbReaderMode) (skips : Bool) (f : Follower) (r : Result PollAnswer SlateError) → Rebuilds (by_catalogue w.stored w.catalogue) ext mode skips false (λ objects line. Unit {0}) (state_of w).store (built f r) (state_of w').store → CanFollow mode false w → (LacksSegment (by_catalogue w.stored w.catalogue) ext mode skips false w.catalogue w.stored → ⊥) → (HasRisen w.faults w'.faults → ⊥) → IsOkOrNoMemory (reply_to polled_reply r)
-poll-reply ext w w' mode skips f (Ok answer) r can lacks calm =
+poll-reply : (ext : Option Extractor) (w w' : World) (f f' : Follower) (r : Result PollAnswer SlateError) → Rebuilds (by_catalogue w.stored w.catalogue) ext f.mode f.skips false f.lag (SeesPolled (by_catalogue w.stored w.catalogue) f) (λ objects line. Unit {0}) (state_of w).store (built f' r) (state_of w').store → CanFollow f.mode false w → (LacksSegment (by_catalogue w.stored w.catalogue) ext f.mode f.skips false w.catalogue w.stored → ⊥) → (HasRisen w.faults w'.faults → ⊥) → IsOkOrNoMemory (reply_to polled_reply r)
+poll-reply ext w w' f f' (Ok answer) r can lacks calm =
     let all = r.sees w.catalogue w.stored refl refl tt in
-    subst (λ a. IsOkOrNoMemory (polled_reply a)) (sym all.3) tt
-poll-reply ext w w' mode skips f (Err e) r can lacks calm = subst (λ x. IsOkOrNoMemory (refusal x)) (sym (repoll-free ext w w' mode skips (Err e) r can lacks calm)) tt
+    subst (λ a. IsOkOrNoMemory (polled_reply a)) (sym (polled-answer w.stored w.catalogue w.catalogue f f' answer all)) tt
+poll-reply ext w w' f f' (Err e) r can lacks calm = subst (λ x. IsOkOrNoMemory (refusal x)) (sym (repoll-free ext w w' f.mode f.skips f.lag (SeesPolled (by_catalogue w.stored w.catalogue) f) (Err e) r can lacks calm)) tt
 
 -- a poll of one that is open
 polled-completes : (ext : Option Extractor) (w w' : World) (f f' : Follower) (r : Result PollAnswer SlateError) → Polls (by_catalogue w.stored w.catalogue) ext f (state_of w).store r f' (state_of w').store → f.result ≡ None → (is_pinned f.mode ≡ false → CanFollow f.mode false w) → (is_pinned f.mode ≡ false → LacksSegment (by_catalogue w.stored w.catalogue) ext f.mode f.skips false w.catalogue w.stored → ⊥) → (HasRisen w.faults w'.faults → ⊥) → (pinned : Bool) → is_pinned f.mode ≡ pinned → IsOkOrNoMemory (reply_to polled_reply r)
 polled-completes ext w w' f f' r p live can lacks calm true stays = subst (λ x. IsOkOrNoMemory (reply_to polled_reply x)) (sym (p.pinned live stays).0) tt
-polled-completes ext w w' f f' r p live can lacks calm false free = poll-reply ext w w' f.mode f.skips f' r (p.rebuilds live free) (can free) (lacks free) calm
+polled-completes ext w w' f f' r p live can lacks calm false free = poll-reply ext w w' f f' r (p.rebuilds live free) (can free) (lacks free) calm
 
 -- a call with a plan for a checkpoint that can be put, and that is refused for nothing else
 planned-free : {A B : Type 0} (plan : VersionedManifest → Plan A) (w : World) (faults : ℕ) (error : SlateError) → PlanCause ⊥ plan w.catalogue error → CountsFaults {A = B} w.faults faults (Err error) → CanPut plan w → (HasRisen w.faults faults → ⊥) → error ≡ errors.NoMemory
@@ -413,13 +414,13 @@ take-not ext w skips lifetime moment (errors.SegmentPrefixNotRecognized prefix n
 take-not ext w skips lifetime moment (errors.EmptySegmentPrefix key) fits keyed cause = absurd (replays-once ext w modes.ManagedCheckpoint skips key (keyed key refl) fits.1)
 take-not ext w skips lifetime moment e fits keyed cause = absurd cause
 
-take-reply : (ext : Option Extractor) (w w' : World) (made lifetime interval : ℕ) (skips : Bool) (moment : ℤ) (n : ℕ) (r : Result (Follower × PollAnswer) SlateError) → OpensManaged (by_catalogue w.stored w.catalogue) ext made lifetime interval skips moment (state_of w).store r (state_of w').store →
+take-reply : (ext : Option Extractor) (w w' : World) (made lifetime interval : ℕ) (skips : Bool) (lag : ℕ) (moment : ℤ) (n : ℕ) (r : Result (Follower × PollAnswer) SlateError) → OpensManaged (by_catalogue w.stored w.catalogue) ext made lifetime interval skips lag moment (state_of w).store r (state_of w').store →
     (lease_refusal lifetime interval ≡ None) × CanPut (to_take lifetime moment) w × CanReplay ext modes.ManagedCheckpoint skips w → (HasRisen w.faults w'.faults → ⊥) → IsOkOrNoMemory (reply_to (λ (b : Follower × PollAnswer). followed_reply n b.1) r)
-take-reply ext w w' made lifetime interval skips moment n (Ok b) d (none, can, fits) calm =
+take-reply ext w w' made lifetime interval skips lag moment n (Ok b) d (none, can, fits) calm =
     let t = modelled w.catalogue w'.catalogue (d.takes none).takes in
     let all = (t.sees).sees w.stored refl tt in
     subst (λ a. IsOkOrNoMemory (followed_reply n a)) (sym all.3) tt
-take-reply ext w w' made lifetime interval skips moment n (Err e) d (none, can, fits) calm =
+take-reply ext w w' made lifetime interval skips lag moment n (Err e) d (none, can, fits) calm =
     let t = d.takes none in
     let puts = modelled w.catalogue w'.catalogue t.puts in
     let segmented : AreFollowed {A = Follower × PollAnswer} (by_catalogue w.stored w.catalogue) ext modes.ManagedCheckpoint skips true w.catalogue w.stored (Err e) = t.segmented w.catalogue w.stored refl refl in
@@ -442,7 +443,7 @@ keep-reply : (ext : Option Extractor) (w w' : World) (made : ℕ) (lease : Lease
 keep-reply ext w w' made lease moment f f' (Ok answer) d can lacks calm =
     let t = modelled w.catalogue w'.catalogue d.keeps in
     let all = (t.sees).sees w.stored refl tt in
-    subst (λ a. IsOkOrNoMemory (polled_reply a)) (sym all.3) tt
+    subst (λ a. IsOkOrNoMemory (polled_reply a)) (sym (polled-answer w.stored w.catalogue w'.catalogue f (follower_under (unwrap_or t.next t.latest) f') answer all)) tt
 keep-reply ext w w' made lease moment f f' (Err e) d can lacks calm =
     let puts = modelled w.catalogue w'.catalogue d.puts in
     let segmented = d.segmented w.catalogue w.stored refl refl tt in
@@ -464,8 +465,9 @@ renewal-free plan id lifetime moment view is low faults faults' e cause counts c
 twice-reply : (ext : Option Extractor) (w w' : World) (made : ℕ) (lease : Lease) (moment : ℤ) (f f' : Follower) (r : Result PollAnswer SlateError) → PollsTwice (by_catalogue w.stored w.catalogue) ext made lease moment f (state_of w).store r f' (state_of w').store → CanRenew w moment f lease → (HasRisen w.faults w'.faults → ⊥) → IsOkOrNoMemory (reply_to polled_reply r)
 twice-reply ext w w' made lease moment f f' (Ok answer) p can calm =
     let t = (p.round.keeps).some w.catalogue refl in
-    let all = ((t.2).sees).sees w.stored refl tt in
-    subst (λ a. IsOkOrNoMemory (polled_reply a)) (sym ((p.answers).0 ∙ all.3)) tt
+    let q = t.2 in
+    let all = (q.sees).sees w.stored refl tt in
+    subst (λ a. IsOkOrNoMemory (polled_reply a)) (sym ((p.answers).0 ∙ polled-answer w.stored w.catalogue t.0 f (follower_under (unwrap_or q.next q.latest) p.middle) p.answer all)) tt
 twice-reply ext w w' made lease moment f f' (Err e) p can calm =
     let k = took (by_catalogue w.stored w.catalogue) ext made lease moment f w.catalogue w.faults (Err e) f' (state_of w').store p in
     let t = (p.round.keeps).some w.catalogue refl in
@@ -622,10 +624,10 @@ module _ (settings : Settings) (w w' : World) (valid : IsValid w) (segments : Ar
       let o = modelled w.catalogue w'.catalogue (d.does).opens in
       subst IsOkOrNoMemory (sym d.replied) (free-reply _ d.result (λ x at. tt) (open-free settings.extractor w w'.faults d.result o.answer ((d.does).segmented w.catalogue w.stored refl refl) (d.does).faults can calm))
   completes-at (NewSnapshot n) d can = opens-snapshot n can d
-  completes-at (NewFollower modes.FollowLatest managed skips) d can = subst IsOkOrNoMemory (sym (d.0).replied) (follow-reply settings.extractor w w' modes.FollowLatest skips (length w.objects) (d.0).result (d.0).does can calm)
-  completes-at (NewFollower (modes.Checkpoint id) managed skips) d can = subst IsOkOrNoMemory (sym (d.0).replied) (follow-reply settings.extractor w w' (modes.Checkpoint id) skips (length w.objects) (d.0).result (d.0).does can calm)
-  completes-at (NewFollower modes.ManagedCheckpoint managed skips) d can =
-      subst IsOkOrNoMemory (sym d.replied) (take-reply settings.extractor w w' made (lifetime_of managed) (interval_of managed) skips command.moment (length w.objects) d.result d.does can calm)
+  completes-at (NewFollower modes.FollowLatest managed skips lag) d can = subst IsOkOrNoMemory (sym (d.0).replied) (follow-reply settings.extractor w w' modes.FollowLatest skips (lag_of lag) (length w.objects) (d.0).result (d.0).does can calm)
+  completes-at (NewFollower (modes.Checkpoint id) managed skips lag) d can = subst IsOkOrNoMemory (sym (d.0).replied) (follow-reply settings.extractor w w' (modes.Checkpoint id) skips (lag_of lag) (length w.objects) (d.0).result (d.0).does can calm)
+  completes-at (NewFollower modes.ManagedCheckpoint managed skips lag) d can =
+      subst IsOkOrNoMemory (sym d.replied) (take-reply settings.extractor w w' made (lifetime_of managed) (interval_of managed) skips (lag_of lag) command.moment (length w.objects) d.result d.does can calm)
   completes-at (NewCheckpoint lifetime) d can =
       let c = d.does in
       let o = modelled w.catalogue w'.catalogue (c.does).objects in

@@ -6,6 +6,7 @@ use Rattle.slate_store.specs.declared.reader_modes.DbReaderMode.{DbReaderMode}
 use Rattle.slate_store.specs.declared.reader_modes.DbReaderMode.TheVariants as modes
 use Rattle.slate_errors.specs.declared.errors.SlateError.{SlateError}
 use Rattle.slate_errors.specs.declared.errors.SlateError.TheVariants as errors
+use Rattle.slate_follow.specs.Lagging.{readings}
 use Rattle.slate_follow.specs.Rebuilding.{CallsOpening as CallsFollowing, CallsRebuilding}
 use Rattle.slate_model.specs.Followed.{followed_logs}
 use Rattle.slate_model.specs.Follower.{is_managed}
@@ -34,14 +35,14 @@ follow-calls None mode skips calls calls' other managed = tt
 follow-calls (Some o) mode skips calls calls' other managed = follows-at mode skips o calls calls' other managed
 
 -- a poll, by whether the reader keeps a checkpoint
-polls-at : (keeps : Bool) (o : Objects) (calls calls' : ℕ) → (keeps ≡ false → CallsRebuilding o calls calls') → (keeps ≡ true → calls' ≤ calls + 9 * (replayed_logs o + 3)) → calls' ≤ calls + poll_calls keeps o
-polls-at true o calls calls' other managed = managed refl
-polls-at false o calls calls' other managed = let counted = other refl in omega (arith, counted)
+polls-at : (keeps : Bool) (lag : ℕ) (o : Objects) (calls calls' : ℕ) → (keeps ≡ false → CallsRebuilding o lag calls calls') → (keeps ≡ true → calls' ≤ calls + 9 * (readings lag (replayed_logs o) + 3)) → calls' ≤ calls + poll_calls keeps lag o
+polls-at true lag o calls calls' other managed = managed refl
+polls-at false lag o calls calls' other managed = let counted = other refl in omega (arith, counted)
 
-pub polling-calls : (t : Option Objects) (keeps : Bool) (calls calls' : ℕ) → (keeps ≡ false → IfSome t (λ o. CallsRebuilding o calls calls')) → (keeps ≡ true → IfSome t (λ o. calls' ≤ calls + 9 * (replayed_logs o + 3))) →
-    IfSome t (λ o. calls' ≤ calls + poll_calls keeps o)
-polling-calls None keeps calls calls' other managed = tt
-polling-calls (Some o) keeps calls calls' other managed = polls-at keeps o calls calls' other managed
+pub polling-calls : (t : Option Objects) (keeps : Bool) (lag : ℕ) (calls calls' : ℕ) → (keeps ≡ false → IfSome t (λ o. CallsRebuilding o lag calls calls')) → (keeps ≡ true → IfSome t (λ o. calls' ≤ calls + 9 * (readings lag (replayed_logs o) + 3))) →
+    IfSome t (λ o. calls' ≤ calls + poll_calls keeps lag o)
+polling-calls None keeps lag calls calls' other managed = tt
+polling-calls (Some o) keeps lag calls calls' other managed = polls-at keeps lag o calls calls' other managed
 
 -- and a close
 pub ending-calls : (keeps : Bool) (calls calls' : ℕ) → (keeps ≡ false → calls' ≡ calls) → calls' ≤ calls + 16 → calls' ≤ calls + end_calls keeps

@@ -27,7 +27,7 @@ use Rattle.slate_script.specs.declared.replies.Reply.TheVariants as replies
 use Rattle.slate_store.specs.declared.reader_modes.DbReaderMode.{DbReaderMode}
 use Rattle.slate_store.specs.declared.reader_modes.DbReaderMode.TheVariants as modes
 use Rattle.slate_errors.specs.declared.errors.SlateError.TheVariants as errors
-use Rattle.slate_model.specs.Follow.{FollowCause, Polls, Rebuilds, unseen}
+use Rattle.slate_model.specs.Follow.{FollowCause, Polls, Rebuilds, SeesOwed, unseen}
 use Rattle.slate_model.specs.Begun.{Begun}
 use Rattle.slate_model.specs.Follower.{Follower, is_managed, is_pinned, number}
 use Rattle.slate_model.specs.Lease.{lease_refusal, to_take}
@@ -73,8 +73,8 @@ caused ext k mode None = tt
 caused ext k mode (Some o) = tt
 
 -- an opening of a reader that was opened and finds no room
-pub follows-in_vain : (ext : Option Extractor) (k : Knowledge (List Batch)) (mode : DbReaderMode) (skips : Bool) (b : Follower × PollAnswer) (before after : Known (List Batch)) → Rebuilds k ext mode skips true unseen before (Ok b) after → Rebuilds k ext mode skips true unseen before (Err errors.NoMemory) after
-follows-in_vain ext k mode skips b before after did = record {
+pub follows-in_vain : (ext : Option Extractor) (k : Knowledge (List Batch)) (mode : DbReaderMode) (skips : Bool) (lag : ℕ) (b : Follower × PollAnswer) (before after : Known (List Batch)) → Rebuilds k ext mode skips true lag (SeesOwed k mode skips lag) unseen before (Ok b) after → Rebuilds k ext mode skips true lag (SeesOwed k mode skips lag) unseen before (Err errors.NoMemory) after
+follows-in_vain ext k mode skips lag b before after did = record {
   kept = did.kept;
   faults = record { count = did.faults.count; unavailable = λ h. absurd (cc); stays = inl did.faults.stays };
   missing = λ h. absurd (cc);
@@ -89,7 +89,7 @@ follows-in_vain ext k mode skips b before after did = record {
 }
 
 -- and of one that keeps a checkpoint, which is left to lapse
-module _ {L : Type 0} (ext : Option Extractor) (k : Knowledge L) (made lifetime interval : ℕ) (skips : Bool) (moment : ℤ) (b : Follower × PollAnswer) (before after : Known L) where
+module _ {L : Type 0} (ext : Option Extractor) (k : Knowledge L) (made lifetime interval : ℕ) (skips : Bool) (lag : ℕ) (moment : ℤ) (b : Follower × PollAnswer) (before after : Known L) where
   refused-not : (refusal : Option SlateError) → IfSome refusal (λ error. (◌≡◌ {A = Result (Follower × PollAnswer) SlateError} (Ok b) (Err error)) × Untouched made before after) → IfSome refusal (λ error. (◌≡◌ {A = Result (Follower × PollAnswer) SlateError} (Err errors.NoMemory) (Err error)) × Untouched made before after)
   refused-not None is = tt
   refused-not (Some error) is = absurd (let e = is.0 in cc)
@@ -97,7 +97,7 @@ module _ {L : Type 0} (ext : Option Extractor) (k : Knowledge L) (made lifetime 
   puts-in_vain : (o o' : ObjectsOf L) → PutsPlanned k.stands (TakeRefusal ext) (to_take lifetime moment) o (Ok b) made o' → PutsPlanned {B = Follower × PollAnswer} k.stands (TakeRefusal ext) (to_take lifetime moment) o (Err errors.NoMemory) made o'
   puts-in_vain o o' puts = record { cause = inl tt; part = let whole = puts.part in omega (arith, whole); after = puts.after }
 
-  takes-in_vain : TakesLease k ext made lifetime skips moment before (Ok b) after → TakesLease k ext made lifetime skips moment before (Err errors.NoMemory) after
+  takes-in_vain : TakesLease k ext made lifetime skips lag moment before (Ok b) after → TakesLease k ext made lifetime skips lag moment before (Err errors.NoMemory) after
   takes-in_vain takes = record {
     faults = record { count = takes.faults.count; unavailable = λ h. absurd (cc); stays = inl takes.faults.stays; none_missing = λ h. absurd (cc) };
     puts = record { none = takes.puts.none; some = λ o is. let t = takes.puts.some o is in (t.0, t.1, puts-in_vain o t.0 t.2) };
@@ -109,48 +109,48 @@ module _ {L : Type 0} (ext : Option Extractor) (k : Knowledge L) (made lifetime 
     whole = λ key is. absurd (cc);
   }
 
-  pub opens-in_vain : OpensManaged k ext made lifetime interval skips moment before (Ok b) after → OpensManaged k ext made lifetime interval skips moment before (Err errors.NoMemory) after
+  pub opens-in_vain : OpensManaged k ext made lifetime interval skips lag moment before (Ok b) after → OpensManaged k ext made lifetime interval skips lag moment before (Err errors.NoMemory) after
   opens-in_vain did = record { refused = refused-not (lease_refusal lifetime interval) did.refused; takes = λ passes. takes-in_vain (did.takes passes) }
 
 -- An opening of a reader that answered this, over the options that a command gives: what it did, by its mode, is what the command does.
 module _ {L : Type 0} (k : Knowledge L) (settings : Settings) where
-  opens-by : (mode : DbReaderMode) (managed : Option (ℕ × ℕ)) (skips : Bool) (moment : ℤ) (r : Result (Follower × PollAnswer) SlateError) (s : State L) (reply : Reply) (s' : State L) →
+  opens-by : (mode : DbReaderMode) (managed : Option (ℕ × ℕ)) (skips : Bool) (lag : ℕ) (moment : ℤ) (r : Result (Follower × PollAnswer) SlateError) (s : State L) (reply : Reply) (s' : State L) →
       reply ≡ reply_to (λ b. followed_reply (length s.objects) b.1) r → s'.objects ≡ s.objects ++ added (λ b. AFollower b.0) r → s'.writes ≡ s.writes → (lifetime interval : ℕ) → lifetime ≡ lifetime_of managed → interval ≡ interval_of managed →
-      (is_managed mode ≡ false → Rebuilds k settings.extractor mode skips true unseen s.store r s'.store) → (is_managed mode ≡ true → (made : ℕ) × OpensManaged k settings.extractor made lifetime interval skips moment s.store r s'.store) →
-      (made : ℕ) × OpensFollowerIn k settings mode managed skips moment made s reply s'
-  opens-by (modes.Checkpoint id) managed skips moment r s reply s' replied objects writes lifetime interval is is' other keeps = (0, (record { result = r; replied = replied; does = other refl; objects = objects; writes = writes }, refl))
-  opens-by modes.FollowLatest managed skips moment r s reply s' replied objects writes lifetime interval is is' other keeps = (0, (record { result = r; replied = replied; does = other refl; objects = objects; writes = writes }, refl))
-  opens-by modes.ManagedCheckpoint managed skips moment r s reply s' replied objects writes lifetime interval is is' other keeps =
+      (is_managed mode ≡ false → Rebuilds k settings.extractor mode skips true lag (SeesOwed k mode skips lag) unseen s.store r s'.store) → (is_managed mode ≡ true → (made : ℕ) × OpensManaged k settings.extractor made lifetime interval skips lag moment s.store r s'.store) →
+      (made : ℕ) × OpensFollowerIn k settings mode managed skips lag moment made s reply s'
+  opens-by (modes.Checkpoint id) managed skips lag moment r s reply s' replied objects writes lifetime interval is is' other keeps = (0, (record { result = r; replied = replied; does = other refl; objects = objects; writes = writes }, refl))
+  opens-by modes.FollowLatest managed skips lag moment r s reply s' replied objects writes lifetime interval is is' other keeps = (0, (record { result = r; replied = replied; does = other refl; objects = objects; writes = writes }, refl))
+  opens-by modes.ManagedCheckpoint managed skips lag moment r s reply s' replied objects writes lifetime interval is is' other keeps =
       let d = keeps refl in
-      let did : OpensManaged k settings.extractor d.0 (lifetime_of managed) (interval_of managed) skips moment s.store r s'.store =
-      subst (λ i. OpensManaged k settings.extractor d.0 (lifetime_of managed) i skips moment s.store r s'.store) is' (subst (λ l. OpensManaged k settings.extractor d.0 l interval skips moment s.store r s'.store) is d.1) in
+      let did : OpensManaged k settings.extractor d.0 (lifetime_of managed) (interval_of managed) skips lag moment s.store r s'.store =
+      subst (λ i. OpensManaged k settings.extractor d.0 (lifetime_of managed) i skips lag moment s.store r s'.store) is' (subst (λ l. OpensManaged k settings.extractor d.0 l interval skips lag moment s.store r s'.store) is d.1) in
       (d.0, record { result = r; replied = replied; does = did; objects = objects; writes = writes })
 
-module _ (k : Knowledge (List Batch)) (settings : Settings) (mode : DbReaderMode) (managed : Option (ℕ × ℕ)) (skips : Bool) (moment : ℤ) where
+module _ (k : Knowledge (List Batch)) (settings : Settings) (mode : DbReaderMode) (managed : Option (ℕ × ℕ)) (skips : Bool) (lag : ℕ) (moment : ℤ) where
   -- it is added
   pub opens-follower : (b : Follower × PollAnswer) (objects objects' : List Object) (writes : List Write) (before after : Known (List Batch)) (reply : Reply) → reply ≡ followed_reply (length objects) b.1 → objects' ≡ objects ++ AFollower b.0 ∷ [] →
       (lifetime interval : ℕ) → lifetime ≡ lifetime_of managed → interval ≡ interval_of managed → (at : ℤ) → at ≡ moment →
-      (is_managed mode ≡ false → Rebuilds k settings.extractor mode skips true unseen before (Ok b) after) → (is_managed mode ≡ true → (made : ℕ) × OpensManaged k settings.extractor made lifetime interval skips at before (Ok b) after) →
-      (made : ℕ) × OpensFollowerIn k settings mode managed skips moment made (record { objects = objects; writes = writes; store = before }) reply (record { objects = objects'; writes = writes; store = after })
+      (is_managed mode ≡ false → Rebuilds k settings.extractor mode skips true lag (SeesOwed k mode skips lag) unseen before (Ok b) after) → (is_managed mode ≡ true → (made : ℕ) × OpensManaged k settings.extractor made lifetime interval skips lag at before (Ok b) after) →
+      (made : ℕ) × OpensFollowerIn k settings mode managed skips lag moment made (record { objects = objects; writes = writes; store = before }) reply (record { objects = objects'; writes = writes; store = after })
   opens-follower b objects objects' writes before after reply replied added lifetime interval is is' at same_at other keeps =
-      opens-by k settings mode managed skips moment (Ok b) (record { objects = objects; writes = writes; store = before }) reply (record { objects = objects'; writes = writes; store = after }) replied added refl lifetime interval is is' other (λ keep. let d = keeps keep in (d.0, subst (λ m. OpensManaged k settings.extractor d.0 lifetime interval skips m before (Ok b) after) same_at d.1))
+      opens-by k settings mode managed skips lag moment (Ok b) (record { objects = objects; writes = writes; store = before }) reply (record { objects = objects'; writes = writes; store = after }) replied added refl lifetime interval is is' other (λ keep. let d = keeps keep in (d.0, subst (λ m. OpensManaged k settings.extractor d.0 lifetime interval skips lag m before (Ok b) after) same_at d.1))
 
   -- no room is left for it
   pub follower-in_vain : (b : Follower × PollAnswer) (objects objects' : List Object) (writes : List Write) (before after : Known (List Batch)) → objects' ≡ objects →
       (lifetime interval : ℕ) → lifetime ≡ lifetime_of managed → interval ≡ interval_of managed → (at : ℤ) → at ≡ moment →
-      (is_managed mode ≡ false → Rebuilds k settings.extractor mode skips true unseen before (Ok b) after) → (is_managed mode ≡ true → (made : ℕ) × OpensManaged k settings.extractor made lifetime interval skips at before (Ok b) after) →
-      (made : ℕ) × OpensFollowerIn k settings mode managed skips moment made (record { objects = objects; writes = writes; store = before }) replies.NoMemory (record { objects = objects'; writes = writes; store = after })
+      (is_managed mode ≡ false → Rebuilds k settings.extractor mode skips true lag (SeesOwed k mode skips lag) unseen before (Ok b) after) → (is_managed mode ≡ true → (made : ℕ) × OpensManaged k settings.extractor made lifetime interval skips lag at before (Ok b) after) →
+      (made : ℕ) × OpensFollowerIn k settings mode managed skips lag moment made (record { objects = objects; writes = writes; store = before }) replies.NoMemory (record { objects = objects'; writes = writes; store = after })
   follower-in_vain b objects objects' writes before after same lifetime interval is is' at same_at other keeps =
-      opens-by k settings mode managed skips moment (Err errors.NoMemory) (record { objects = objects; writes = writes; store = before }) replies.NoMemory (record { objects = objects'; writes = writes; store = after }) refl (same ∙ sym (append-nil objects)) refl
-      lifetime interval is is' (λ free. follows-in_vain settings.extractor k mode skips b before after (other free)) (λ keep. let d = keeps keep in (d.0, opens-in_vain settings.extractor k d.0 lifetime interval skips moment b before after (subst (λ m. OpensManaged k settings.extractor d.0 lifetime interval skips m before (Ok b) after) same_at d.1)))
+      opens-by k settings mode managed skips lag moment (Err errors.NoMemory) (record { objects = objects; writes = writes; store = before }) replies.NoMemory (record { objects = objects'; writes = writes; store = after }) refl (same ∙ sym (append-nil objects)) refl
+      lifetime interval is is' (λ free. follows-in_vain settings.extractor k mode skips lag b before after (other free)) (λ keep. let d = keeps keep in (d.0, opens-in_vain settings.extractor k d.0 lifetime interval skips lag moment b before after (subst (λ m. OpensManaged k settings.extractor d.0 lifetime interval skips lag m before (Ok b) after) same_at d.1)))
 
   -- or it was refused
   pub refuses-follower : (error : SlateError) (objects : List Object) (writes : List Write) (before after : Known (List Batch)) (reply : Reply) → reply ≡ refusal error →
       (lifetime interval : ℕ) → lifetime ≡ lifetime_of managed → interval ≡ interval_of managed → (at : ℤ) → at ≡ moment →
-      (is_managed mode ≡ false → Rebuilds k settings.extractor mode skips true unseen before (Err error) after) → (is_managed mode ≡ true → (made : ℕ) × OpensManaged k settings.extractor made lifetime interval skips at before (Err error) after) →
-      (made : ℕ) × OpensFollowerIn k settings mode managed skips moment made (record { objects = objects; writes = writes; store = before }) reply (record { objects = objects; writes = writes; store = after })
+      (is_managed mode ≡ false → Rebuilds k settings.extractor mode skips true lag (SeesOwed k mode skips lag) unseen before (Err error) after) → (is_managed mode ≡ true → (made : ℕ) × OpensManaged k settings.extractor made lifetime interval skips lag at before (Err error) after) →
+      (made : ℕ) × OpensFollowerIn k settings mode managed skips lag moment made (record { objects = objects; writes = writes; store = before }) reply (record { objects = objects; writes = writes; store = after })
   refuses-follower error objects writes before after reply replied lifetime interval is is' at same_at other keeps =
-      opens-by k settings mode managed skips moment (Err error) (record { objects = objects; writes = writes; store = before }) reply (record { objects = objects; writes = writes; store = after }) replied (sym (append-nil objects)) refl lifetime interval is is' other (λ keep. let d = keeps keep in (d.0, subst (λ m. OpensManaged k settings.extractor d.0 lifetime interval skips m before (Err error) after) same_at d.1))
+      opens-by k settings mode managed skips lag moment (Err error) (record { objects = objects; writes = writes; store = before }) reply (record { objects = objects; writes = writes; store = after }) replied (sym (append-nil objects)) refl lifetime interval is is' other (λ keep. let d = keeps keep in (d.0, subst (λ m. OpensManaged k settings.extractor d.0 lifetime interval skips lag m before (Err error) after) same_at d.1))
 
 -- a poll, by whether the reader keeps a checkpoint
 polls-as : (ext : Option Extractor) {L : Type 0} (k : Knowledge L) (keeps : Bool) (moment : ℤ) (old new : Follower) (before after : Known L) (result : Result PollAnswer SlateError) → (keeps ≡ false → Polls k ext old before result new after) →

@@ -6,7 +6,7 @@ use Rattle.slate_store.specs.declared.reader_modes.DbReaderMode.{DbReaderMode}
 use Rattle.slate_store.specs.declared.reader_modes.DbReaderMode.TheVariants as modes
 use Rattle.slate_errors.specs.declared.errors.SlateError.{SlateError}
 use Rattle.slate_model.specs.Catalogue.{Span}
-use Rattle.slate_model.specs.Follow.{Rebuilds, unseen}
+use Rattle.slate_model.specs.Follow.{Rebuilds, SeesOwed, unseen}
 use Rattle.slate_model.specs.Follower.{Follower}
 use Rattle.slate_model.specs.Handle.{Handle}
 use Rattle.slate_model.specs.Knowledge.{Knowledge}
@@ -20,7 +20,7 @@ use Rattle.slate_model.specs.declared.snapshots.HandleSnapshot.{HandleSnapshot}
 use Rattle.slate_script.specs.declared.commands.Command.{Command}
 use Rattle.slate_script.specs.declared.replies.Reply.{Reply}
 use Rattle.slate_live.specs.Calls.{Call, NewHandle, NewSnapshot, NewFollower, NewCheckpoint, WholeStore, OfWrite, OfObject, Target, at_snapshot, call_of, target_of}
-use Rattle.slate_live.specs.Commands.{ActsAt, ActsOn, DoesBy, OpensSnapshot, ReadsSnapshot, added, interval_of, lifetime_of}
+use Rattle.slate_live.specs.Commands.{ActsAt, ActsOn, DoesBy, OpensSnapshot, ReadsSnapshot, added, interval_of, lag_of, lifetime_of}
 use Rattle.slate_live.specs.Followers.{FollowerActs}
 use Rattle.slate_live.specs.Handles.{HandleActs}
 use Rattle.slate_live.specs.Represents.{IsFollowerAt, IsHandleAt}
@@ -42,8 +42,8 @@ module _ (settings : Settings) (w : World) (command : Command) (made : ℕ) (rep
     pub snapshot : (snapshot : HandleSnapshot) → P (ASnapshot snapshot)
     pub follower : (n : ℕ) (f f' : Follower) → IsFollowerAt w.objects n f → target_of command.action ≡ OfObject n → FollowerActs k settings command.moment (call_of command.action) made f (state_of w).store w.writes reply f' s'.store s'.writes → P (AFollower f')
     pub opened : (keeps_log : Bool) (h : Handle) → OpensHandle k settings.extractor made keeps_log settings.options.max_unflushed_bytes (option_tasks settings.options) (state_of w).store (Ok h) s'.store → P (AHandle h)
-    pub followed : (mode : DbReaderMode) (skips : Bool) (b : Follower × PollAnswer) → Rebuilds k settings.extractor mode skips true unseen (state_of w).store (Ok b) s'.store → P (AFollower b.0)
-    pub taken : (lifetime : ℕ) (skips : Bool) (b : Follower × PollAnswer) → TakesLease k settings.extractor made lifetime skips command.moment (state_of w).store (Ok b) s'.store → P (AFollower b.0)
+    pub followed : (mode : DbReaderMode) (skips : Bool) (lag : ℕ) (b : Follower × PollAnswer) → Rebuilds k settings.extractor mode skips true lag (SeesOwed k mode skips lag) unseen (state_of w).store (Ok b) s'.store → P (AFollower b.0)
+    pub taken : (lifetime : ℕ) (skips : Bool) (lag : ℕ) (b : Follower × PollAnswer) → TakesLease k settings.extractor made lifetime skips lag command.moment (state_of w).store (Ok b) s'.store → P (AFollower b.0)
 
   module _ (keeps : Kept) where
     abbrev All : Type 0
@@ -99,24 +99,24 @@ module _ (settings : Settings) (w : World) (command : Command) (made : ℕ) (rep
     handle-opened keeps_log (Ok g) d h is = let same : g ≡ h = cc in subst (λ (x : Handle). P (AHandle x)) same (keeps.opened keeps_log g d)
     handle-opened keeps_log (Err e) d h is = absurd (cc)
 
-    reader-followed : (mode : DbReaderMode) (skips : Bool) (r : Result (Follower × PollAnswer) SlateError) → Rebuilds k settings.extractor mode skips true unseen (state_of w).store r s'.store → (b : Follower × PollAnswer) → r ≡ Ok b → P (AFollower b.0)
-    reader-followed mode skips (Ok c) d b is = let same : c ≡ b = cc in subst (λ (x : Follower × PollAnswer). P (AFollower x.0)) same (keeps.followed mode skips c d)
-    reader-followed mode skips (Err e) d b is = absurd (cc)
+    reader-followed : (mode : DbReaderMode) (skips : Bool) (lag : ℕ) (r : Result (Follower × PollAnswer) SlateError) → Rebuilds k settings.extractor mode skips true lag (SeesOwed k mode skips lag) unseen (state_of w).store r s'.store → (b : Follower × PollAnswer) → r ≡ Ok b → P (AFollower b.0)
+    reader-followed mode skips lag (Ok c) d b is = let same : c ≡ b = cc in subst (λ (x : Follower × PollAnswer). P (AFollower x.0)) same (keeps.followed mode skips lag c d)
+    reader-followed mode skips lag (Err e) d b is = absurd (cc)
 
-    reader-taken : (lifetime interval : ℕ) (skips : Bool) (r : Result (Follower × PollAnswer) SlateError) → OpensManaged k settings.extractor made lifetime interval skips command.moment (state_of w).store r s'.store → (b : Follower × PollAnswer) → r ≡ Ok b → P (AFollower b.0)
-    reader-taken lifetime interval skips (Ok c) d b is =
+    reader-taken : (lifetime interval : ℕ) (skips : Bool) (lag : ℕ) (r : Result (Follower × PollAnswer) SlateError) → OpensManaged k settings.extractor made lifetime interval skips lag command.moment (state_of w).store r s'.store → (b : Follower × PollAnswer) → r ≡ Ok b → P (AFollower b.0)
+    reader-taken lifetime interval skips lag (Ok c) d b is =
         let same : c ≡ b = cc in
         by-option (lease_refusal lifetime interval)
-        (λ none. subst (λ (x : Follower × PollAnswer). P (AFollower x.0)) same (keeps.taken lifetime skips c (d.takes none)))
+        (λ none. subst (λ (x : Follower × PollAnswer). P (AFollower x.0)) same (keeps.taken lifetime skips lag c (d.takes none)))
         (λ e refused. let no = (some-of _ (lease_refusal lifetime interval) e refused d.refused).0 in absurd (cc))
-    reader-taken lifetime interval skips (Err e) d b is = absurd (cc)
+    reader-taken lifetime interval skips lag (Err e) d b is = absurd (cc)
 
     by-target : (target : Target) → target_of command.action ≡ target → DoesBy k settings command target made (state_of w) reply s' → All
     by-target (NewHandle keeps_log) names d = all-added AHandle d.result d.objects (handle-opened keeps_log d.result d.does)
     by-target (NewSnapshot n) names d = sampled-all n (slice_get w.objects n) d
-    by-target (NewFollower modes.FollowLatest managed skips) names d = all-added _ (d.0).result (d.0).objects (reader-followed modes.FollowLatest skips (d.0).result (d.0).does)
-    by-target (NewFollower (modes.Checkpoint id) managed skips) names d = all-added _ (d.0).result (d.0).objects (reader-followed (modes.Checkpoint id) skips (d.0).result (d.0).does)
-    by-target (NewFollower modes.ManagedCheckpoint managed skips) names d = all-added _ d.result d.objects (reader-taken (lifetime_of managed) (interval_of managed) skips d.result d.does)
+    by-target (NewFollower modes.FollowLatest managed skips lag) names d = all-added _ (d.0).result (d.0).objects (reader-followed modes.FollowLatest skips (lag_of lag) (d.0).result (d.0).does)
+    by-target (NewFollower (modes.Checkpoint id) managed skips lag) names d = all-added _ (d.0).result (d.0).objects (reader-followed (modes.Checkpoint id) skips (lag_of lag) (d.0).result (d.0).does)
+    by-target (NewFollower modes.ManagedCheckpoint managed skips lag) names d = all-added _ d.result d.objects (reader-taken (lifetime_of managed) (interval_of managed) skips (lag_of lag) d.result d.does)
     by-target (NewCheckpoint lifetime) names d = all-same d.objects
     by-target WholeStore names d = all-same d.objects
     by-target (OfWrite n) names d = all-state d.2

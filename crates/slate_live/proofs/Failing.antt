@@ -49,7 +49,7 @@ module _ (w : World) (faults : ℕ) where
   }
 
   same-reaches : (o : Objects) (n : ℕ) (reader : Follower) (begun : Begun) (first : Option FirstRead) → IfSome first (λ _. ReachesTo (w.owed n) o w reader begun) → IfSome first (λ _. ReachesTo (w.owed n) o after reader begun)
-  same-reaches o n reader begun (Some first) r = record { stored = r.stored; tabled = r.tabled; anew = r.anew; next = r.next }
+  same-reaches o n reader begun (Some first) r = record { stored = r.stored; tabled = r.tabled; apart = r.apart; anew = r.anew; next = r.next }
   same-reaches o n reader begun None r = r
 
   same-at : (o : Objects) (n : ℕ) (begun : Begun) → StandsAt o w n begun → StandsAt o after n begun

@@ -16,7 +16,7 @@ use Rattle.slate_errors.specs.declared.errors.SlateError.{SlateError}
 use Rattle.slate_model.specs.declared.answers.PollAnswer.{PollAnswer}
 use Rattle.slate_model.specs.declared.leases.Lease.{Lease}
 use Rattle.slate_model.specs.Catalogue.{Catalogue, Span}
-use Rattle.slate_model.specs.Follow.{Polls, Rebuilds, built, unseen}
+use Rattle.slate_model.specs.Follow.{Polls, Rebuilds, SeesOwed, SeesPolled, built, unseen}
 use Rattle.slate_model.specs.Follower.{Follower, is_managed, is_pinned}
 use Rattle.slate_model.specs.Handle.{Handle}
 use Rattle.slate_model.specs.Knowledge.{Knowledge}
@@ -36,7 +36,7 @@ use Rattle.slate_model.proofs.Reduced.{some-same}
 use Rattle.slate_script.specs.declared.commands.Command.{Command}
 use Rattle.slate_script.specs.declared.replies.Reply.{Reply}
 use Rattle.slate_live.specs.Calls.{Call, Write as WriteCall, Merge as MergeCall, Flush, Refresh, Compact, Get, Scan, Seek, Close, Poll, Status, FindTime, FindNumber, Nothing, call_of, Target, NewHandle, NewSnapshot, NewFollower, NewCheckpoint, WholeStore, OfWrite, OfObject, at_snapshot, target_of}
-use Rattle.slate_live.specs.Commands.{ActsAt, ActsOn, DoesBy, OpensSnapshot, ReadsSnapshot, added, interval_of, lifetime_of}
+use Rattle.slate_live.specs.Commands.{ActsAt, ActsOn, DoesBy, OpensSnapshot, ReadsSnapshot, added, interval_of, lag_of, lifetime_of}
 use Rattle.slate_live.specs.Followers.{ClosesAs, FollowerActs, PollsAs}
 use Rattle.slate_live.specs.Represents.{IsFollowerAt, IsValid}
 use Rattle.slate_live.specs.Settings.{Settings}
@@ -191,8 +191,8 @@ module _ (settings : Settings) (w : World) (valid : IsValid w) (rising : AreRisi
           kept (Err e) answers failed = ap (λ (x : Follower). x.lease) failed
 
     -- a poll of one that keeps no checkpoint leaves it as it was, or without a lease
-    unleased : (r : Result PollAnswer SlateError) (lease' : Lease) → Rebuilds k settings.extractor f.mode f.skips false (λ objects line. Unit {0}) (state_of w).store (built f' r) s'.store → IfErr r (λ error. f' ≡ f) → f'.lease ≡ Some lease' → Fate n lease'
-    unleased (Ok answer) lease' b failed has = absurd (let none = b.answer.2 in cc)
+    unleased : (r : Result PollAnswer SlateError) (lease' : Lease) → Rebuilds k settings.extractor f.mode f.skips false f.lag (SeesPolled k f) (λ objects line. Unit {0}) (state_of w).store (built f' r) s'.store → IfErr r (λ error. f' ≡ f) → f'.lease ≡ Some lease' → Fate n lease'
+    unleased (Ok answer) lease' b failed has = absurd (let none = b.answer.3 in cc)
     unleased (Err e) lease' b failed has = old lease' (ap (λ (x : Follower). x.lease) failed) has
 
     polls-plainly : (r : Result PollAnswer SlateError) (lease' : Lease) → Polls k settings.extractor f (state_of w).store r f' s'.store → f'.lease ≡ Some lease' → Fate n lease'
@@ -268,17 +268,17 @@ module _ (settings : Settings) (w : World) (valid : IsValid w) (rising : AreRisi
   sampled-fates n None d = fates-state d.2
 
   -- an opening of a reader that keeps no checkpoint gives no lease
-  opened-unleased : (mode : DbReaderMode) (skips : Bool) (r : Result (Follower × PollAnswer) SlateError) → Rebuilds k settings.extractor mode skips true unseen (state_of w).store r s'.store → s'.objects ≡ w.objects ++ added (λ (b : Follower × PollAnswer). AFollower b.0) r → Fates
-  opened-unleased mode skips r d objects =
+  opened-unleased : (mode : DbReaderMode) (skips : Bool) (lag : ℕ) (r : Result (Follower × PollAnswer) SlateError) → Rebuilds k settings.extractor mode skips true lag (SeesOwed k mode skips lag) unseen (state_of w).store r s'.store → s'.objects ≡ w.objects ++ added (λ (b : Follower × PollAnswer). AFollower b.0) r → Fates
+  opened-unleased mode skips lag r d objects =
       fates-added (λ (b : Follower × PollAnswer). AFollower b.0) r objects
       (λ b f lease is same has. absurd (let answer = subst (λ x. IfOk x (λ (b : Follower × PollAnswer). b.0.lease ≡ None)) is (unleased-answer r d) in let it : b.0 ≡ f = cc in let no = sym (ap (λ (x : Follower). x.lease) it) ∙ answer in cc)) where
-        unleased-answer : (r : Result (Follower × PollAnswer) SlateError) → Rebuilds k settings.extractor mode skips true unseen (state_of w).store r s'.store → IfOk r (λ (b : Follower × PollAnswer). b.0.lease ≡ None)
-        unleased-answer (Ok b) d = d.answer.2
+        unleased-answer : (r : Result (Follower × PollAnswer) SlateError) → Rebuilds k settings.extractor mode skips true lag (SeesOwed k mode skips lag) unseen (state_of w).store r s'.store → IfOk r (λ (b : Follower × PollAnswer). b.0.lease ≡ None)
+        unleased-answer (Ok b) d = d.answer.3
         unleased-answer (Err e) d = tt
 
   -- one that does gives a new one
-  took-fate : (lifetime : ℕ) (skips : Bool) (b : Follower × PollAnswer) (lease : Lease) → ((m : ℕ) → target_of command.action ≡ OfObject m → ⊥) → TakesLease k settings.extractor made lifetime skips command.moment (state_of w).store (Ok b) s'.store → b.0.lease ≡ Some lease → Fate (length w.objects) lease
-  took-fate lifetime skips b lease alone t has =
+  took-fate : (lifetime : ℕ) (skips : Bool) (lag : ℕ) (b : Follower × PollAnswer) (lease : Lease) → ((m : ℕ) → target_of command.action ≡ OfObject m → ⊥) → TakesLease k settings.extractor made lifetime skips lag command.moment (state_of w).store (Ok b) s'.store → b.0.lease ≡ Some lease → Fate (length w.objects) lease
+  took-fate lifetime skips lag b lease alone t has =
       let puts = (t.puts).some w.catalogue refl in
       let q = ((t.takes).some w.catalogue refl).2 in
       let latest = q.plan.0 in
@@ -289,22 +289,22 @@ module _ (settings : Settings) (w : World) (valid : IsValid w) (rising : AreRisi
       (new-lease (to_take lifetime command.moment) (length w.objects) latest (Some b.0.view) q.given puts.0 q.plan.1 q.plan.2 puts_it new puts.1 (puts.2).after
       (all-one (to_take lifetime command.moment) latest (Some b.0.view) q.given q.plan.1 q.plan.2 puts_it new (puts.2).part) (inr (refl, alone)))
 
-  took-fates : (lifetime interval : ℕ) (skips : Bool) (r : Result (Follower × PollAnswer) SlateError) → ((m : ℕ) → target_of command.action ≡ OfObject m → ⊥) → OpensManaged k settings.extractor made lifetime interval skips command.moment (state_of w).store r s'.store → s'.objects ≡ w.objects ++ added (λ (b : Follower × PollAnswer). AFollower b.0) r → Fates
-  took-fates lifetime interval skips r alone d objects =
+  took-fates : (lifetime interval : ℕ) (skips : Bool) (lag : ℕ) (r : Result (Follower × PollAnswer) SlateError) → ((m : ℕ) → target_of command.action ≡ OfObject m → ⊥) → OpensManaged k settings.extractor made lifetime interval skips lag command.moment (state_of w).store r s'.store → s'.objects ≡ w.objects ++ added (λ (b : Follower × PollAnswer). AFollower b.0) r → Fates
+  took-fates lifetime interval skips lag r alone d objects =
       fates-added (λ (b : Follower × PollAnswer). AFollower b.0) r objects
       (λ b f lease is same has.
       let it : b.0 ≡ f = cc in
       by-option (lease_refusal lifetime interval)
-      (λ none. took-fate lifetime skips b lease alone (subst (λ x. TakesLease k settings.extractor made lifetime skips command.moment (state_of w).store x s'.store) is (d.takes none)) (ap (λ (x : Follower). x.lease) it ∙ has))
+      (λ none. took-fate lifetime skips lag b lease alone (subst (λ x. TakesLease k settings.extractor made lifetime skips lag command.moment (state_of w).store x s'.store) is (d.takes none)) (ap (λ (x : Follower). x.lease) it ∙ has))
       (λ error refused. absurd (let c = some-of (λ error. (r ≡ Err error) × Untouched made (state_of w).store s'.store) (lease_refusal lifetime interval) error refused d.refused in let no : ◌≡◌ {A = Result (Follower × PollAnswer) SlateError} (Ok b) (Err error) = sym is ∙ c.0 in cc)))
 
   fates-by : (target : Target) → target_of command.action ≡ target → DoesBy k settings command target made (state_of w) reply s' → Fates
   fates-by (NewHandle keeps_log) names d = fates-added AHandle d.result d.objects (λ b f lease is same has. absurd (cc))
   fates-by (NewSnapshot n) names d = sampled-fates n (slice_get w.objects n) d
-  fates-by (NewFollower modes.FollowLatest managed skips) names d = opened-unleased modes.FollowLatest skips (d.0).result (d.0).does (d.0).objects
-  fates-by (NewFollower (modes.Checkpoint id) managed skips) names d = opened-unleased (modes.Checkpoint id) skips (d.0).result (d.0).does (d.0).objects
-  fates-by (NewFollower modes.ManagedCheckpoint managed skips) names d =
-      took-fates (lifetime_of managed) (interval_of managed) skips d.result (λ m is. absurd (let no = sym names ∙ is in cc)) d.does d.objects
+  fates-by (NewFollower modes.FollowLatest managed skips lag) names d = opened-unleased modes.FollowLatest skips (lag_of lag) (d.0).result (d.0).does (d.0).objects
+  fates-by (NewFollower (modes.Checkpoint id) managed skips lag) names d = opened-unleased (modes.Checkpoint id) skips (lag_of lag) (d.0).result (d.0).does (d.0).objects
+  fates-by (NewFollower modes.ManagedCheckpoint managed skips lag) names d =
+      took-fates (lifetime_of managed) (interval_of managed) skips (lag_of lag) d.result (λ m is. absurd (let no = sym names ∙ is in cc)) d.does d.objects
   fates-by (NewCheckpoint lifetime) names d = fates-same d.objects
   fates-by WholeStore names d = fates-same d.objects
   fates-by (OfWrite n) names d = fates-state d.2

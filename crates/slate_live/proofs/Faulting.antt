@@ -35,7 +35,7 @@ use Rattle.slate_script.specs.declared.replies.Reply.{Reply}
 use Rattle.slate_script.specs.declared.replies.Reply.TheVariants as replies
 use Rattle.slate_live.specs.declared.states.Write.{Write}
 use Rattle.slate_live.specs.Calls.{Call, Write as WriteCall, Merge as MergeCall, Flush, Refresh, Compact, Get, Scan, Seek, Close, Poll, Status, FindTime, FindNumber, Nothing, call_of, Target, NewHandle, NewSnapshot, NewFollower, NewCheckpoint, WholeStore, OfWrite, OfObject, at_snapshot, target_of}
-use Rattle.slate_live.specs.Commands.{ActsAt, ActsOn, DoesBy, OpensSnapshot, ReadsSnapshot, interval_of, lifetime_of}
+use Rattle.slate_live.specs.Commands.{ActsAt, ActsOn, DoesBy, OpensSnapshot, ReadsSnapshot, interval_of, lag_of, lifetime_of}
 use Rattle.slate_live.specs.Followers.{ClosesAs, FollowerActs, PollsAs}
 use Rattle.slate_live.specs.Handles.{HandleActs}
 use Rattle.slate_live.specs.Replies.{IsRead, closed_reply, follower_ended_reply, polled_reply, refusal, reply_to}
@@ -236,8 +236,8 @@ module _ (settings : Settings) (w : World) (valid : IsValid w) (command : Comman
   opened-shows n None d = state-before d.2
 
   -- an opening of a reader that keeps a checkpoint
-  took-stays : (lifetime interval : ℕ) (skips : Bool) (r : Result (Follower × PollAnswer) SlateError) → OpensManaged k settings.extractor made lifetime interval skips command.moment before r s'.store → Stays r
-  took-stays lifetime interval skips r d =
+  took-stays : (lifetime interval : ℕ) (skips : Bool) (lag : ℕ) (r : Result (Follower × PollAnswer) SlateError) → OpensManaged k settings.extractor made lifetime interval skips lag command.moment before r s'.store → Stays r
+  took-stays lifetime interval skips lag r d =
       by-option (lease_refusal lifetime interval)
       (λ none. ((d.takes none).faults).stays)
       (λ error refused. uncalled r (some-of (λ error. (r ≡ Err error) × Untouched made before s'.store) (lease_refusal lifetime interval) error refused d.refused).1.1)
@@ -245,10 +245,10 @@ module _ (settings : Settings) (w : World) (valid : IsValid w) (command : Comman
   shows-by : (target : Target) → DoesBy k settings command target made (state_of w) reply s' → Answers
   shows-by (NewHandle keeps_log) d = shows _ w.faults s'.store.faults d.result reply ((d.does).faults).stays d.replied
   shows-by (NewSnapshot n) d = opened-shows n (slice_get w.objects n) d
-  shows-by (NewFollower modes.FollowLatest managed skips) d = shows _ w.faults s'.store.faults (d.0).result reply (((d.0).does).faults).stays (d.0).replied
-  shows-by (NewFollower (modes.Checkpoint id) managed skips) d = shows _ w.faults s'.store.faults (d.0).result reply (((d.0).does).faults).stays (d.0).replied
-  shows-by (NewFollower modes.ManagedCheckpoint managed skips) d =
-      shows _ w.faults s'.store.faults d.result reply (took-stays (lifetime_of managed) (interval_of managed) skips d.result d.does) d.replied
+  shows-by (NewFollower modes.FollowLatest managed skips lag) d = shows _ w.faults s'.store.faults (d.0).result reply (((d.0).does).faults).stays (d.0).replied
+  shows-by (NewFollower (modes.Checkpoint id) managed skips lag) d = shows _ w.faults s'.store.faults (d.0).result reply (((d.0).does).faults).stays (d.0).replied
+  shows-by (NewFollower modes.ManagedCheckpoint managed skips lag) d =
+      shows _ w.faults s'.store.faults d.result reply (took-stays (lifetime_of managed) (interval_of managed) skips (lag_of lag) d.result d.does) d.replied
   shows-by (NewCheckpoint lifetime) d = let c = d.does in shows _ w.faults s'.store.faults c.result reply ((c.does).faults).stays c.replied
   shows-by WholeStore d = let c = d.does in shows _ w.faults s'.store.faults c.result reply ((c.does).faults).stays c.replied
   shows-by (OfWrite n) d = state-before d.2

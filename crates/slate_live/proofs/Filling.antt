@@ -1,10 +1,10 @@
 -- A plan for a checkpoint is refused where no manifest can follow the latest one, and a begun poll fails so.
-use Rattle.std.proofs.Common.{◌≡◌, ◌⊎◌, ◌+◌, ◌++◌, ◌∷◌, ◌==◌, ◌&&◌, ◌≤◌, [], max, not, ℕ, ℤ, Bool, true, false, cond, if◌then◌else◌, List, map, Option, Some, None, Ok, Err, refl, sym, subst, ap, inl, inr}
-use Rattle.std.specs.Prelude.{nat_lt}
+use Rattle.std.proofs.Common.{◌≡◌, ◌⊎◌, ◌+◌, ◌-◌, ◌++◌, ◌∷◌, ◌==◌, ◌&&◌, ◌≤◌, [], max, not, ℕ, ℤ, Bool, true, false, cond, if◌then◌else◌, List, map, Option, Some, None, Ok, Err, refl, sym, subst, ap, inl, inr}
+use Rattle.std.specs.Prelude.{◌||◌, nat_lt}
 use Rattle.std.proofs.lemmas.Bool.{ltb-false}
 use Rattle.slate_types.specs.declared.batches.Batch.{Batch}
 use Rattle.slate_store.specs.Checkpoints.{Plan, found, lease_end, new_checkpoint, puts_next, refreshed, to_end, to_refresh, to_write, with_checkpoints, without_id}
-use Rattle.slate_store.specs.Objects.{Objects, PutManifest, is_present, latest_manifest}
+use Rattle.slate_store.specs.Objects.{Objects, PutManifest, is_present, latest_manifest, log_at}
 use Rattle.slate_store.specs.declared.objects.Checkpoint.{Checkpoint}
 use Rattle.slate_store.specs.declared.objects.VersionedManifest.{VersionedManifest}
 use Rattle.slate_store.specs.declared.refusals.StoreRefusal.{StoreRefusal}
@@ -12,7 +12,7 @@ use Rattle.slate_store.specs.declared.refusals.StoreRefusal.TheVariants as refus
 use Rattle.slate_errors.specs.declared.closing.CloseFault.TheVariants as faults
 use Rattle.slate_errors.specs.declared.errors.SlateError.{SlateError}
 use Rattle.slate_errors.specs.declared.errors.SlateError.TheVariants as errors
-use Rattle.slate_model.specs.Begun.{Begun, Breaks, Ends, Ended, Fails, Goes, Puts, AsksLast, ReadsAgain, ReadsLatest, ReadsLog, Stage, Turn, asked_lease, begun_at, committed, decided, emptied, kept_lease, leads_on, noted, put_by, read_log, read_again, replayed, replaying}
+use Rattle.slate_model.specs.Begun.{Begun, Breaks, Ends, Ended, Fails, Goes, Puts, AsksLast, LooksAt, ReadsAgain, ReadsLatest, ReadsLog, Stage, Turn, asked_lease, begun_at, committed, decided, emptied, greatest_number, kept_lease, leads_on, looked_at, noted, put_by, reached_number, read_log, read_again, replayed, replaying}
 use Rattle.slate_model.specs.Follower.{Follower}
 use Rattle.slate_model.specs.Handle.{CloseResult}
 use Rattle.slate_model.specs.Lease.{differs, is_due, leased, replaces, to_keep}
@@ -22,7 +22,7 @@ use Rattle.slate_model.specs.Refusal.{error_of_refusal}
 use Rattle.slate_model.specs.Write.{last_number}
 use Rattle.slate_model.specs.declared.leases.Lease.{Lease}
 use Rattle.slate_replay.specs.declared.replays.Replayed.TheVariants as replays
-use Rattle.slate_follow.specs.Stepping.{MeetsAt}
+use Rattle.slate_follow.specs.Stepping.{LooksTo, MeetsAt}
 use Rattle.slate_script.specs.declared.replies.Reply.TheVariants as replies
 use Rattle.slate_live.specs.Replies.{refusal}
 
@@ -132,6 +132,14 @@ module _ (Full : VersionedManifest → Type 0) (full : (last : VersionedManifest
       let next = record begun { fresh = fresh; mark = begun.mark + 1 } in
       if-full last (next.mark == id) (replayed last next) (Goes (record next { stage = ReadsLog id })) (asked-fails last next.lease next) tt
 
+  looked-fails : (reader : Follower) (latest : VersionedManifest) (id last : ℕ) (batches : List Batch) (begun : Begun) → FailsFull latest (looked_at reader latest id last batches begun)
+  looked-fails reader latest id last batches begun =
+      let newest = greatest_number batches in
+      let waits = nat_lt (reached_number begun) newest || id == begun.mark + 1 in
+      let back : Turn = Goes (record begun { stage = LooksAt (id - 1) last }) in
+      if-full latest (nat_lt (reached_number begun + reader.lag) newest) (Goes (record begun { stage = ReadsLog last })) (if waits then replayed latest begun else back) tt
+      (if-full latest waits (replayed latest begun) back (asked-fails latest begun.lease begun) tt)
+
   again-fails : (last : VersionedManifest) (begun : Begun) → FailsFull last (read_again last begun)
   again-fails last begun =
       let next = record begun { latest = Some last } in
@@ -144,6 +152,10 @@ module _ (Full : VersionedManifest → Type 0) (full : (last : VersionedManifest
   overtaken-not true begun is = absurd (cc)
   overtaken-not false begun is = absurd (cc)
 
+  looks-fails : (reader : Follower) (latest : VersionedManifest) (id last : ℕ) (begun : Begun) (log : Option (List Batch)) → LooksTo reader latest id last begun log (Fails errors.InvalidDBState) → Full latest
+  looks-fails reader latest id last begun None turn_is = absurd (cc)
+  looks-fails reader latest id last begun (Some batches) turn_is = fails-by latest (looked_at reader latest id last batches begun) turn_is (looked-fails reader latest id last batches begun)
+
   -- by which manifest a call fails so: the latest one, the one that was read last, or that is put
   pub meets-fails : (stage : Stage) (reader : Follower) (begun : Begun) (o o' : Objects) → MeetsAt stage reader begun o (Fails errors.InvalidDBState) o' →
       (last : VersionedManifest) × ((latest_manifest o ≡ Some last) ⊎ ((begun.latest ≡ Some last) ⊎ ((given : Lease) × (replaces : Bool) × (stage ≡ Puts last given replaces) × (is_present (PutManifest last.id last.manifest) o ≡ false)))) × Full last
@@ -151,6 +163,7 @@ module _ (Full : VersionedManifest → Type 0) (full : (last : VersionedManifest
   meets-fails (Puts next given replaces) reader begun o o' (inl (free, turn_is, put)) = (next, inr (inr (given, replaces, refl, free)), fails-by next (committed reader next given replaces begun) turn_is (committed-fails reader next given replaces begun))
   meets-fails (Puts next given replaces) reader begun o o' (inr (there, turn_is, same)) = absurd (overtaken-not (begun.overtaken == 7) (begun_at begun.moment (begun.overtaken + 1) begun.history reader) turn_is)
   meets-fails AsksLast reader begun o o' (turn_is, same) = absurd (cc)
+  meets-fails (LooksAt id last) reader begun o o' (latest, read, looks, same) = (latest, inr (inl read), looks-fails reader latest id last begun (log_at id o) looks)
   meets-fails (ReadsLog last) reader begun o o' (latest, fresh, replays.Whole, read, n, turn_is, same) = (latest, inr (inl read), fails-by latest (read_log latest last fresh begun) turn_is (read-fails latest last fresh begun))
   meets-fails (ReadsLog last) reader begun o o' (latest, fresh, (replays.Truncated id), read, n, turn_is, same) = absurd (cc)
   meets-fails ReadsAgain reader begun o o' (latest, is, turn_is, same) = (latest, inl is, fails-by latest (read_again latest begun) turn_is (again-fails latest begun))

@@ -1,24 +1,24 @@
 -- No call of a begun poll fails for what it decides, while ids of manifests are left and fewer than seven of its puts were overtaken.
-use Rattle.std.proofs.Common.{◌≡◌, ◌∙◌, inl, inr, ℕ, ℤ, ◌+◌, ◌≤◌, ◌<◌, ◌&&◌, ◌==◌, max, not, Bool, true, false, if◌then◌else◌, List, ◌++◌, ◌∷◌, [], map, Option, Some, None, Ok, Err, refl, sym, ap, subst, arith}
+use Rattle.std.proofs.Common.{◌≡◌, ◌∙◌, inl, inr, ℕ, ℤ, ◌+◌, ◌-◌, ◌≤◌, ◌<◌, ◌&&◌, ◌==◌, max, not, Bool, true, false, if◌then◌else◌, List, ◌++◌, ◌∷◌, [], map, Option, Some, None, Ok, Err, refl, sym, ap, subst, arith}
 use Rattle.std.proofs.lemmas.Bool.{eqb-true, lt-ltb}
 use Rattle.std.specs.Option.{is_some}
-use Rattle.std.specs.Prelude.{nat_lt}
+use Rattle.std.specs.Prelude.{◌||◌, nat_lt}
 use Rattle.slate_types.specs.declared.batches.Batch.{Batch}
 use Rattle.slate_store.specs.Checkpoints.{Plan, found, lease_end, new_checkpoint, puts_next, refreshed, to_end, to_refresh, to_write, with_checkpoints, without_replaced}
-use Rattle.slate_store.specs.Objects.{Objects, latest_manifest}
+use Rattle.slate_store.specs.Objects.{Objects, latest_manifest, log_at}
 use Rattle.slate_store.specs.declared.objects.Checkpoint.{Checkpoint}
 use Rattle.slate_store.specs.declared.objects.VersionedManifest.{VersionedManifest}
 use Rattle.slate_store.specs.declared.refusals.StoreRefusal.TheVariants.{InvalidDBState}
 use Rattle.slate_errors.specs.declared.errors.SlateError.TheVariants as errors
 use Rattle.slate_replay.specs.declared.replays.Replayed.{Replayed}
 use Rattle.slate_replay.specs.declared.replays.Replayed.TheVariants as replays
-use Rattle.slate_model.specs.Begun.{AsksLast, Begun, Breaks, Ended, Ends, Fails, Goes, Puts, ReadsAgain, ReadsLatest, ReadsLog, Stage, Turn, asked_lease, begun_at, committed, decided, emptied, kept_lease, leads_on, noted, overtaken_by, put_by, read_again, read_log, replayed, replaying, taken}
+use Rattle.slate_model.specs.Begun.{AsksLast, Begun, Breaks, Ended, Ends, Fails, Goes, LooksAt, Puts, ReadsAgain, ReadsLatest, ReadsLog, Stage, Turn, asked_lease, begun_at, committed, decided, emptied, greatest_number, kept_lease, leads_on, looked_at, noted, overtaken_by, put_by, reached_number, read_again, read_log, replayed, replaying, taken}
 use Rattle.slate_model.specs.Follower.{Follower}
 use Rattle.slate_model.specs.Lease.{differs, is_due, leased}
 use Rattle.slate_model.specs.Stood.{WasLatest}
 use Rattle.slate_model.specs.Write.{last_number}
 use Rattle.slate_model.specs.declared.leases.Lease.{Lease}
-use Rattle.slate_follow.specs.Stepping.{MeetsAt, log_turn}
+use Rattle.slate_follow.specs.Stepping.{LooksTo, MeetsAt, log_turn}
 
 -- a turn that isn't an error
 abbrev pub GoesOn : Turn → Type 0
@@ -96,6 +96,21 @@ read-goes l last fresh b room = by (b.mark + 1 == last)
     by true = replayed-goes l (record b { fresh = fresh; mark = b.mark + 1 }) room
     by false = tt
 
+looked-goes : (reader : Follower) (l : VersionedManifest) (id last : ℕ) (batches : List Batch) (b : Begun) → (is_some b.lease ≡ true → l.id < last_number) → GoesOn (looked_at reader l id last batches b)
+looked-goes reader l id last batches b room = by (nat_lt (reached_number b + reader.lag) newest) (nat_lt (reached_number b) newest || id == b.mark + 1)
+  where
+    newest : ℕ
+    newest = greatest_number batches
+
+    by : (x y : Bool) → GoesOn (if x then Goes (record b { stage = ReadsLog last }) else (if y then replayed l b else Goes (record b { stage = LooksAt (id - 1) last })))
+    by true y = tt
+    by false true = replayed-goes l b room
+    by false false = tt
+
+looks-goes : (reader : Follower) (l : VersionedManifest) (id last : ℕ) (b : Begun) (log : Option (List Batch)) (turn : Turn) → (is_some b.lease ≡ true → l.id < last_number) → LooksTo reader l id last b log turn → GoesOn turn
+looks-goes reader l id last b None turn room turn_is = subst GoesOn (sym turn_is) tt
+looks-goes reader l id last b (Some batches) turn room turn_is = subst GoesOn (sym turn_is) (looked-goes reader l id last batches b room)
+
 log-goes : (found : Replayed) (l : VersionedManifest) (last : ℕ) (fresh : List Batch) (b : Begun) → (is_some b.lease ≡ true → l.id < last_number) → GoesOn (log_turn found l last fresh b)
 log-goes replays.Whole l last fresh b room = read-goes l last fresh b room
 log-goes (replays.Truncated id) l last fresh b room = tt
@@ -132,6 +147,9 @@ module _ (reader : Follower) (b : Begun) (o o' : Objects) (few : b.overtaken < 7
       subst GoesOn (sym turn_is) (committed-goes reader next given replaces (taken b) (omega (arith, low, more, id)))
   meets-goes (Puts next given replaces) at turn (inr (present, turn_is, same)) = subst GoesOn (sym turn_is) (overtaken-goes reader (taken b) few)
   meets-goes AsksLast at turn (turn_is, same) = subst GoesOn (sym turn_is) tt
+  meets-goes (LooksAt id last) at turn (l, is, looks, same) =
+      let low = id-low l (read l is) in
+      looks-goes reader l id last (taken b) (log_at id o) turn (λ held. let more = room held in omega (arith, low, more)) looks
   meets-goes (ReadsLog last) at turn (l, fresh, found_log, is, replays_next, turn_is, same) =
       let low = id-low l (read l is) in
       subst GoesOn (sym turn_is) (log-goes found_log l last fresh (taken b) (λ held. let more = room held in omega (arith, low, more)))

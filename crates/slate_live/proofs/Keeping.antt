@@ -276,9 +276,9 @@ module _ (settings : Settings) (w w' : World) (command : Command) (made : ℕ) (
   keeps-target (NewHandle keeps_log) d =
       keeps-by w.objects w'.objects rise w.writes w'.writes reply d.writes (numbers-by w'.writes d.replied (numbers-to w'.writes _ d.result (λ x. tt)))
   keeps-target (NewSnapshot n) d = opened-keeps n (slice_get w.objects n) d
-  keeps-target (NewFollower modes.FollowLatest managed skips) d = followed-keeps _ d.0
-  keeps-target (NewFollower (modes.Checkpoint id) managed skips) d = followed-keeps _ d.0
-  keeps-target (NewFollower modes.ManagedCheckpoint managed skips) d = followed-keeps _ d
+  keeps-target (NewFollower modes.FollowLatest managed skips lag) d = followed-keeps _ d.0
+  keeps-target (NewFollower (modes.Checkpoint id) managed skips lag) d = followed-keeps _ d.0
+  keeps-target (NewFollower modes.ManagedCheckpoint managed skips lag) d = followed-keeps _ d
   keeps-target (NewCheckpoint lifetime) d =
       keeps-by w.objects w'.objects rise w.writes w'.writes reply d.writes (numbers-by w'.writes (d.does).replied (numbers-to w'.writes _ (d.does).result (λ x. tt)))
   keeps-target WholeStore d =

@@ -29,7 +29,7 @@ use Rattle.slate_errors.specs.declared.errors.SlateError.{SlateError}
 use Rattle.slate_model.specs.Catalogue.{Span, catalogue_of}
 use Rattle.slate_model.specs.Close.{closed, closed_follower, closing_flush, ended, recorded_fault, without_tasks, Closes}
 use Rattle.slate_model.specs.declared.leases.Lease.{Lease}
-use Rattle.slate_model.specs.Followed.{can_follow}
+use Rattle.slate_model.specs.Followed.{IsView, can_follow}
 use Rattle.slate_model.specs.Knowledge.{Knowledge}
 use Rattle.slate_model.specs.Lease.{to_keep}
 use Rattle.slate_model.specs.Managed.{EndsLease, KeepRefusal, KeepsLease, PollsLeased, PollsManaged, PollsOnce, PollsTwice, PutsPlanned, PutsRenewal, RenewsTaken, poll_result, unrefused}
@@ -75,11 +75,12 @@ use Rattle.slate_errors.specs.declared.endings.Ended.{Ended}
 use Rattle.slate_model.specs.Refresh.{Compacts, Refreshes, fenced_result}
 use Rattle.slate_model.specs.declared.answers.PollAnswer.{PollAnswer}
 use Rattle.slate_model.specs.Write.{written}
-use Rattle.slate_live.proofs.Leasing.{leased-answers, leased-held, leased-kept, leased-sees, leased-segments, leased-stored, leased-valid, leased_whole}
-use Rattle.slate_live.proofs.Rising.{managed-free}
-use Rattle.slate_live.proofs.Following.{new-held, new-stored, new-valid, seen-kept, seen-mark, with_segments}
+use Rattle.slate_live.proofs.Leasing.{kept-answers, kept-kept, kept-lined, kept-sees, leased-held, leased-kept, leased-segments, leased-stored, leased-valid, leased_whole}
+use Rattle.slate_live.proofs.Rising.{managed-free, managed-mode}
+use Rattle.slate_live.proofs.Following.{new-held, new-valid, polled-kept, polled-lined, polled_line, view-stored, with_segments}
 use Rattle.slate_live.specs.Represents.{IsLeased, IsValidFollower}
-use Rattle.slate_model.proofs.Owing.{owed_line}
+use Rattle.slate_model.proofs.Logging.{stay-follow, still-seen}
+use Rattle.slate_model.specs.Seen.{HasSeen}
 use Rattle.slate_errors.specs.declared.closing.CloseFault.{CloseFault}
 
 -- ---- reads
@@ -450,6 +451,12 @@ kept-number g = line_above-end g.view.manifest.last_l0_seq g.line
 kept-segments : (x : Option Extractor) (g : Follower) → HasSegments x g → HasSegments x (kept_follower g)
 kept-segments x g had = had ∙ sym (ap (λ (l : Line). segments_of x l.batches) (line_above-twice g.view.manifest.last_l0_seq g.view.manifest.last_l0_seq g.line (omega arith)))
 
+-- what a reader has seen it has seen over objects that are maintained
+seen-then : (o o' : Objects) (latest : VersionedManifest) → latest_manifest o ≡ Some latest → Maintained o o' → (f : Follower) → HasSeen o f → HasSeen o' f
+seen-then o o' latest is m f seen =
+    let next = m.latest latest is in
+    still-seen o o' latest next.0 f is next.1 (stay-follow o o' latest.manifest.replay_after_wal_id next.0.manifest.replay_after_wal_id (sym next.4) (m.logs latest is)) seen
+
 -- ---- what a round of a poll puts that keeps a checkpoint, and what that leaves
 module _ (stored : Line) (o o' : Objects) (f f' : ℕ) (made : ℕ) (sound : IsSound o) (holds : content o ≡ stored) (settings : Settings) (moment : ℤ) (g k : Follower) (mine : IsValidFollower stored (catalogue_of o) g) (held : IsHeld o (AFollower g)) where
   abbrev pub round_world : Knowledge Span
@@ -495,19 +502,25 @@ module _ (stored : Line) (o o' : Objects) (f f' : ℕ) (made : ℕ) (sound : IsS
       let here = m.content ∙ holds in
       let can : can_follow false latest ≡ true = or-true latest.manifest.initialized in
       let alike = view-alike g.view k.view lease moment q.latest q.next its q.view in
-      let all = (q.sees).sees stored (o, refl, sound, sym holds) (g, refl, mine.0, held.1 (managed-free g.mode managed)) in
-      let new = leased_whole o' stored g.skips latest k in
+      let free = managed-free g.mode managed in
+      let had = held.1 free in
+      let all = (q.sees).sees stored (o, refl, sound, sym holds) (g, refl, mine.0, had) in
+      let by_latest : IsView modes.ManagedCheckpoint false o' latest = (latest, found, can, refl) in
+      let v = subst (λ mode. IsView mode false o' latest) (sym (managed-mode g.mode managed)) by_latest in
+      let line = polled_line stored k in
+      let lined = kept-lined stored g o' latest m.sound here v k (Some o) answer all free mine.0 (seen-then o o' q.latest q.is_latest m g had) in
+      let part = kept-kept stored g o' latest m.sound here v k (Some o) answer all in
       record {
-        new = new;
-        kept = leased-kept stored g.skips false o' latest m.sound here found can k (Some o) answer all alike;
+        new = leased_whole g.mode g.skips g.lag latest line k;
+        kept = leased-kept stored g.mode g.skips false g.lag o' latest m.sound here v k line lined part alike;
         maintained = m;
-        valid = leased-valid stored g.skips false o' latest m.sound here found can k (Some o) answer all alike (subst (λ l. is_some l ≡ true) (sym q.leased) refl);
-        tables = leased-stored stored g.skips false o' latest m.sound here found can k (Some o) answer all alike;
-        holds_it = leased-held stored g.skips false o' latest m.sound here found can k (Some o) answer all alike;
+        valid = leased-valid stored g.mode g.skips false g.lag o' latest m.sound here v k line lined part alike (subst (λ l. is_some l ≡ true) (sym q.leased) refl);
+        tables = leased-stored stored g.mode g.skips false g.lag o' latest m.sound here v k line lined part alike;
+        holds_it = leased-held stored g.mode g.skips false g.lag o' latest m.sound here v k line lined part alike;
         known = record {
           faults = record { count = p.faults.count; unavailable = λ no. absurd (cc); stays = p.faults.stays; none_missing = λ no. absurd (cc) };
           puts = keep-puts lease (Ok answer) p;
-          answers = (refl, refl, refl, leased-answers stored g.skips false o' latest m.sound here found can k (Some o) answer all alike);
+          answers = (managed-mode g.mode managed, refl, refl, refl, kept-answers stored g o' latest m.sound here v k (Some o) answer all);
           keeps = as_modelled (catalogue_of o) (catalogue_of o') (record {
             latest = q.latest;
             is_latest = q.is_latest;
@@ -516,11 +529,11 @@ module _ (stored : Line) (o o' : Objects) (f f' : ℕ) (made : ℕ) (sound : IsS
             plan = q.plan;
             leased = q.leased;
             view = q.view;
-            sees = leased-sees stored g.skips false o' latest m.sound here found can k (Some o) answer all alike (catalogue_of o) _ (q.sees).logs;
+            sees = kept-sees stored g o' latest m.sound here v k (Some o) answer all (catalogue_of o) _ (q.sees).logs;
           });
           failed = tt;
           lapses = tt;
-          segments = λ had. leased-segments stored g.skips false o' latest m.sound here found can k (Some o) answer all alike settings.extractor (p.segments (kept-segments settings.extractor g had));
+          segments = λ had. leased-segments stored g.mode g.skips false g.lag o' latest m.sound here v k line lined part alike settings.extractor (p.segments (kept-segments settings.extractor g had));
           segmented = λ c line at stored_is _ is_error. keeps-segmented lease (Ok answer) managed p c line at stored_is is_error;
         };
       }
@@ -590,6 +603,7 @@ module _ (stored : Line) (o o' : Objects) (f f' : ℕ) (made : ℕ) (sound : IsS
     renews = p.renews;
     given = p.given;
     leased = its-lease;
+    due = p.due;
     faults = p.faults;
     puts = as_modelled (catalogue_of o1) (catalogue_of o') (subst (λ v. PutsRenewal first_world.stands (to_refresh (p.given).id (p.given).lifetime moment v) (catalogue_of o1) r p.again (catalogue_of o')) (ap (λ (x : Follower). x.view) first.kept)
         (renewal-known (p.given).id (p.given).lifetime moment o1 (first.maintained).sound (p.middle).view both.next_is stored r p.again o' (subst (λ s. PutsRenewal Stands (to_refresh (p.given).id (p.given).lifetime moment (p.middle).view) o1 r p.again s) last_is both.renews)));
@@ -671,33 +685,34 @@ module _ (stored : Line) (o o' : Objects) (f f' : ℕ) (made : ℕ) (writes writ
   unpolled r unmanaged replied none same_writes same kept known = unled Poll same kept (acts-by r g false unmanaged replied same_writes (known, none))
 
   -- one that is open and doesn't stay at a checkpoint
-  free-led : (r : Result PollAnswer SlateError) → is_managed g.mode ≡ false → reply ≡ reply_to polled_reply r → made ≡ 0 → writes' ≡ writes → g.result ≡ None → is_pinned g.mode ≡ false → Polls (by_objects (Some o)) settings.extractor (kept_follower g) (holding o f) r k (holding o' f') → PollsPlainly r (polled-whole o stored None false g k r) → LedFollower Poll
+  free-led : (r : Result PollAnswer SlateError) → is_managed g.mode ≡ false → reply ≡ reply_to polled_reply r → made ≡ 0 → writes' ≡ writes → g.result ≡ None → is_pinned g.mode ≡ false → Polls (by_objects (Some o)) settings.extractor (kept_follower g) (holding o f) r k (holding o' f') → PollsPlainly r (polled-whole stored None false g k r) → LedFollower Poll
   free-led (Ok answer) unmanaged replied none same_writes live free p known =
       let b = p.rebuilds live free in
       let v = b.can o refl in
       let all = b.sees o stored refl (o, refl, sound, sym holds) (g, refl, front, held.1 free) in
-      let mark = seen-mark (Some o) stored g.mode g.skips o k answer all in
-      let new = with_segments k.segments (rebuilt g.mode g.skips k.view (owed_line g.mode g.skips o k.view stored) k.mark) in
+      let line = polled_line stored k in
+      let lined = polled-lined (Some o) stored g o k answer sound holds v front free (held.1 free) all in
+      let new = with_segments k.segments (rebuilt g.mode g.skips g.lag k.view line k.mark) in
       let same = sym (some-same o' o b.kept) in
       record {
         new = new;
-        kept = seen-kept (Some o) stored g.mode g.skips o k answer all;
+        kept = polled-kept (Some o) stored g o k answer sound holds v all;
         maintained = unchanged (some-same o' o b.kept);
-        valid = λ _. subst (λ (x : Objects). IsValidFollower stored (catalogue_of x) new) same (new-valid k.segments stored g.mode g.skips false o k.view sound holds v k.mark mark unmanaged);
-        view = inr (subst (λ (x : Objects). AreStored x k.view.manifest.tables) same (new-stored k.segments stored g.mode g.skips false o k.view sound holds v k.mark mark));
-        holds_it = λ _. subst (λ (x : Objects). IsHeld x (AFollower new)) same (new-held k.segments stored g.mode g.skips false o k.view sound holds v k.mark mark);
+        valid = λ _. subst (λ (x : Objects). IsValidFollower stored (catalogue_of x) new) same (new-valid k.segments stored g.mode g.skips false g.lag o k.view v line k.mark lined unmanaged);
+        view = inr (subst (λ (x : Objects). AreStored x k.view.manifest.tables) same (view-stored stored g.mode g.skips false o k.view sound holds v));
+        holds_it = λ _. subst (λ (x : Objects). IsHeld x (AFollower new)) same (new-held k.segments stored g.mode g.skips false g.lag o k.view v line k.mark lined);
         acts = acts-by (Ok answer) new false unmanaged replied same_writes (known, none);
       }
   free-led (Err e) unmanaged replied none same_writes live free p known = unpolled (Err e) unmanaged replied none same_writes (some-same o' o (p.rebuilds live free).kept) p.failed known
 
-  open-led : (r : Result PollAnswer SlateError) → is_managed g.mode ≡ false → reply ≡ reply_to polled_reply r → made ≡ 0 → writes' ≡ writes → g.result ≡ None → (pinned : Bool) → is_pinned g.mode ≡ pinned → Polls (by_objects (Some o)) settings.extractor (kept_follower g) (holding o f) r k (holding o' f') → PollsPlainly r (polled-whole o stored None pinned g k r) → LedFollower Poll
+  open-led : (r : Result PollAnswer SlateError) → is_managed g.mode ≡ false → reply ≡ reply_to polled_reply r → made ≡ 0 → writes' ≡ writes → g.result ≡ None → (pinned : Bool) → is_pinned g.mode ≡ pinned → Polls (by_objects (Some o)) settings.extractor (kept_follower g) (holding o f) r k (holding o' f') → PollsPlainly r (polled-whole stored None pinned g k r) → LedFollower Poll
   open-led (Ok answer) unmanaged replied none same_writes live true stays p known =
       let q = p.pinned live stays in unpolled (Ok answer) unmanaged replied none same_writes (objects-same o o' f f' q.2) q.1 known
   open-led (Err e) unmanaged replied none same_writes live true stays p known =
       let q = p.pinned live stays in unpolled (Err e) unmanaged replied none same_writes (objects-same o o' f f' q.2) q.1 known
   open-led r unmanaged replied none same_writes live false free p known = free-led r unmanaged replied none same_writes live free p known
 
-  closed-led : (r : Result PollAnswer SlateError) (q : Result (Unit {0}) CloseFault) → is_managed g.mode ≡ false → reply ≡ reply_to polled_reply r → made ≡ 0 → writes' ≡ writes → g.result ≡ Some q → Polls (by_objects (Some o)) settings.extractor (kept_follower g) (holding o f) r k (holding o' f') → PollsPlainly r (polled-whole o stored (Some q) (is_pinned g.mode) g k r) → LedFollower Poll
+  closed-led : (r : Result PollAnswer SlateError) (q : Result (Unit {0}) CloseFault) → is_managed g.mode ≡ false → reply ≡ reply_to polled_reply r → made ≡ 0 → writes' ≡ writes → g.result ≡ Some q → Polls (by_objects (Some o)) settings.extractor (kept_follower g) (holding o f) r k (holding o' f') → PollsPlainly r (polled-whole stored (Some q) (is_pinned g.mode) g k r) → LedFollower Poll
   closed-led (Ok answer) q unmanaged replied none same_writes is p known =
       let c = some-of (λ q. (Ok answer ≡ Err (closed_error q)) × (holding o' f' ≡ holding o f)) g.result q is p.closed in absurd (let e = c.0 in cc)
   closed-led (Err e) q unmanaged replied none same_writes is p known =
@@ -705,12 +720,12 @@ module _ (stored : Line) (o o' : Objects) (f f' : ℕ) (made : ℕ) (writes writ
 
   polled-led : (r : Result PollAnswer SlateError) → is_managed g.mode ≡ false → reply ≡ reply_to polled_reply r → Polls (by_objects (Some o)) settings.extractor (kept_follower g) (holding o f) r k (holding o' f') → made ≡ 0 → writes' ≡ writes → LedFollower Poll
   polled-led r unmanaged replied p none same_writes = by (g.result) refl where
-    known : PollsPlainly r (polled-whole o stored g.result (is_pinned g.mode) g k r)
+    known : PollsPlainly r (polled-whole stored g.result (is_pinned g.mode) g k r)
     known = polls-reduced settings.extractor stored r g k o o' f f' sound holds front held.1 p
 
     by : (closed : CloseResult) → g.result ≡ closed → LedFollower Poll
-    by None live = open-led r unmanaged replied none same_writes live (is_pinned g.mode) refl p (subst (λ c. PollsPlainly r (polled-whole o stored c (is_pinned g.mode) g k r)) live known)
-    by (Some q) is = closed-led r q unmanaged replied none same_writes is p (subst (λ c. PollsPlainly r (polled-whole o stored c (is_pinned g.mode) g k r)) is known)
+    by None live = open-led r unmanaged replied none same_writes live (is_pinned g.mode) refl p (subst (λ c. PollsPlainly r (polled-whole stored c (is_pinned g.mode) g k r)) live known)
+    by (Some q) is = closed-led r q unmanaged replied none same_writes is p (subst (λ c. PollsPlainly r (polled-whole stored c (is_pinned g.mode) g k r)) is known)
 
   -- ---- one that keeps a checkpoint
   abbrev world : Knowledge Span

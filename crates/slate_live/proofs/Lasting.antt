@@ -213,7 +213,7 @@ reads-whole : (n : ℕ) (action : Action) → reads n action ≡ true → kind_o
 reads-whole n = by-kind (λ action. reads n action ≡ true) (λ m is. absurd (cc)) (λ m is. absurd (cc))
 
 pub leases_hold : (settings : Settings) (w : World) (steps : List Step) → w.objects ≡ [] → w.polls ≡ [] → IsReached w → Chain settings w steps → All (λ step. IsReached step.world) steps → LeasesHold steps
-leases_hold settings w steps empty unbegun reached chain all before later rest opened step n at managed skips is follows answered timely =
+leases_hold settings w steps empty unbegun reached chain all before later rest opened step n at managed skips lag is follows answered timely =
     let ready : IsReady w = record { reached = reached; past = λ m lease has. absurd (none m lease has) } in
     let halves = link-halves settings w before (opened ∷ (later ++ step ∷ rest)) (subst (Chain settings w) is chain) in
     let alls = all-halves settings (λ step. IsReached step.world) before (opened ∷ (later ++ step ∷ rest)) (subst (All (λ step. IsReached step.world)) is all) in
@@ -224,7 +224,7 @@ leases_hold settings w steps empty unbegun reached chain all before later rest o
     let more = link-halves settings opened.world later (step ∷ rest) halves.1.1 in
     let mores = all-halves settings (λ step. IsReached step.world) later (step ∷ rest) (All-tail (λ step. IsReached step.world) opened (later ++ step ∷ rest) alls.1) in
     let opens = next-at settings (last_world w before) opened first link reached_opened Whole (ap kind_of follows) in
-    let begins = opening-holds settings (last_world w before) opened.world opened.command opened.reply first.reached reached_opened opens managed skips n at follows answered first.past in
+    let begins = opening-holds settings (last_world w before) opened.world opened.command opened.reply first.reached reached_opened opens managed skips lag n at follows answered first.past in
     let holds = holds-chain settings opened.world later n (lifetime_of managed / 2) opened.command.moment ready_opened more.0 mores.0 begins timely in
     let ready_last = ready-chain settings opened.world later ready_opened more.0 mores.0 in
     let reached_step = All-head (λ step. IsReached step.world) step rest mores.1 in

@@ -35,6 +35,7 @@ pub mod Listing
 pub mod Maintaining
 pub mod Naming
 pub mod Onward
+pub mod Ordered
 pub mod Opening
 pub mod Places
 pub mod Planning

@@ -9,7 +9,7 @@ use Rattle.slate_errors.specs.declared.endings.TaskName.{TaskName}
 use Rattle.slate_errors.specs.declared.errors.SlateError.{SlateError}
 use Rattle.slate_errors.specs.declared.errors.SlateError.TheVariants as errors
 use Rattle.slate_model.specs.Catalogue.{Span}
-use Rattle.slate_model.specs.Follow.{Rebuilds, unseen}
+use Rattle.slate_model.specs.Follow.{Rebuilds, SeesOwed, unseen}
 use Rattle.slate_model.specs.Follower.{Follower, follower_tasks}
 use Rattle.slate_model.specs.Handle.{Handle}
 use Rattle.slate_model.specs.Knowledge.{Knowledge}
@@ -29,7 +29,7 @@ use Rattle.slate_script.specs.declared.replies.Reply.TheVariants as replies
 use Rattle.slate_live.specs.Calls.{Begins, Kind, Steps, Whole as WholeKind, kind_of, target_of}
 use Rattle.slate_live.specs.Next.{NextBegun, NextBy}
 use Rattle.slate_live.specs.Closings.{ListTasks, opens, registered}
-use Rattle.slate_live.specs.Commands.{DoesBy, added, interval_of, lifetime_of}
+use Rattle.slate_live.specs.Commands.{DoesBy, added, interval_of, lag_of, lifetime_of}
 use Rattle.slate_live.specs.Leases.{closes}
 use Rattle.slate_live.specs.Replies.{followed_reply, refusal, reply_to}
 use Rattle.slate_live.specs.Represents.{IsFollowerAt, IsHandleAt, IsReached}
@@ -52,18 +52,18 @@ data HasTasks (w : World) (n : ℕ) (tasks : List TaskName) : Type 0 where
 -- ---- after an opening
 refused-opens : (n : ℕ) (e : SlateError) (action : Action) → opens n action (refusal e) ≡ true → ⊥
 refused-opens n errors.NoMemory (actions.Open wal) is = absurd (cc)
-refused-opens n errors.NoMemory (actions.Follow mode managed skips) is = absurd (cc)
+refused-opens n errors.NoMemory (actions.Follow mode managed skips lag) is = absurd (cc)
 refused-opens n errors.NoMemory action is = absurd (cc)
 refused-opens n (errors.Backpressure unflushed limit) (actions.Open wal) is = absurd (cc)
-refused-opens n (errors.Backpressure unflushed limit) (actions.Follow mode managed skips) is = absurd (cc)
+refused-opens n (errors.Backpressure unflushed limit) (actions.Follow mode managed skips lag) is = absurd (cc)
 refused-opens n (errors.Backpressure unflushed limit) action is = absurd (cc)
 refused-opens n e (actions.Open wal) is = absurd (cc)
-refused-opens n e (actions.Follow mode managed skips) is = absurd (cc)
+refused-opens n e (actions.Follow mode managed skips lag) is = absurd (cc)
 refused-opens n e action is = absurd (cc)
 
-followed-opens : (n m : ℕ) (mode : DbReaderMode) (managed : Option (ℕ × ℕ)) (skips : Bool) (answer : PollAnswer) → opens n (actions.Follow mode managed skips) (followed_reply m answer) ≡ true → m ≡ n
-followed-opens n m mode managed skips (Whole at) is = eqb-true m n is
-followed-opens n m mode managed skips (Truncated at) is = eqb-true m n is
+followed-opens : (n m : ℕ) (mode : DbReaderMode) (managed : Option (ℕ × ℕ)) (skips : Bool) (lag : Option ℕ) (answer : PollAnswer) → opens n (actions.Follow mode managed skips lag) (followed_reply m answer) ≡ true → m ≡ n
+followed-opens n m mode managed skips lag (Whole at) is = eqb-true m n is
+followed-opens n m mode managed skips lag (Truncated at) is = eqb-true m n is
 
 module _ (settings : Settings) (w w' : World) (command : Command) (reply : Reply) (next : NextWhole settings w command reply w') (n : ℕ) where
   abbrev k : Knowledge Span
@@ -79,28 +79,28 @@ module _ (settings : Settings) (w w' : World) (command : Command) (reply : Reply
   abbrev adds_reader : (r : Result (Follower × PollAnswer) SlateError) → Type 0
   adds_reader r = w'.objects ≡ w.objects ++ added (λ (b : Follower × PollAnswer). AFollower b.0) r
 
-  reader-opens : (mode : DbReaderMode) (managed : Option (ℕ × ℕ)) (skips : Bool) (b : Follower × PollAnswer) → b.0.mode ≡ mode → b.0.tasks ≡ follower_tasks mode → by_reader (Ok b) → adds_reader (Ok b) → opens n (actions.Follow mode managed skips) reply ≡ true → HasTasks w' n (follower_tasks mode)
-  reader-opens mode managed skips b mode_is tasks replied objects is =
-      let number = followed-opens n (length w.objects) mode managed skips b.1 (sym (ap (opens n (actions.Follow mode managed skips)) replied) ∙ is) in
+  reader-opens : (mode : DbReaderMode) (managed : Option (ℕ × ℕ)) (skips : Bool) (lag : Option ℕ) (b : Follower × PollAnswer) → b.0.mode ≡ mode → b.0.tasks ≡ follower_tasks mode → by_reader (Ok b) → adds_reader (Ok b) → opens n (actions.Follow mode managed skips lag) reply ≡ true → HasTasks w' n (follower_tasks mode)
+  reader-opens mode managed skips lag b mode_is tasks replied objects is =
+      let number = followed-opens n (length w.objects) mode managed skips lag b.1 (sym (ap (opens n (actions.Follow mode managed skips lag)) replied) ∙ is) in
       OfReader b.0 (added-at (AFollower b.0) objects number) (λ open_. tasks ∙ ap follower_tasks (sym mode_is)) tasks
 
-  rebuilt-opens : (mode : DbReaderMode) (managed : Option (ℕ × ℕ)) (skips : Bool) (r : Result (Follower × PollAnswer) SlateError) → Rebuilds k settings.extractor mode skips true unseen (state_of w).store r (state_of w').store → by_reader r → adds_reader r → opens n (actions.Follow mode managed skips) reply ≡ true → HasTasks w' n (follower_tasks mode)
-  rebuilt-opens mode managed skips (Err e) does replied objects is = absurd (refused-opens n e (actions.Follow mode managed skips) (sym (ap (opens n (actions.Follow mode managed skips)) replied) ∙ is))
-  rebuilt-opens mode managed skips (Ok b) does replied objects is =
+  rebuilt-opens : (mode : DbReaderMode) (managed : Option (ℕ × ℕ)) (skips : Bool) (lag : Option ℕ) (r : Result (Follower × PollAnswer) SlateError) → Rebuilds k settings.extractor mode skips true (lag_of lag) (SeesOwed k mode skips (lag_of lag)) unseen (state_of w).store r (state_of w').store → by_reader r → adds_reader r → opens n (actions.Follow mode managed skips lag) reply ≡ true → HasTasks w' n (follower_tasks mode)
+  rebuilt-opens mode managed skips lag (Err e) does replied objects is = absurd (refused-opens n e (actions.Follow mode managed skips lag) (sym (ap (opens n (actions.Follow mode managed skips lag)) replied) ∙ is))
+  rebuilt-opens mode managed skips lag (Ok b) does replied objects is =
       let all = does.sees w.catalogue w.stored refl refl tt in
-      reader-opens mode managed skips b does.answer.0 (ap (λ (g : Follower). g.tasks) all.2) replied objects is
+      reader-opens mode managed skips lag b does.answer.0 (ap (λ (g : Follower). g.tasks) all.2) replied objects is
 
-  taken-opens : (managed : Option (ℕ × ℕ)) (skips : Bool) (b : Follower × PollAnswer) → TakesLease k settings.extractor next.made (lifetime_of managed) skips command.moment (state_of w).store (Ok b) (state_of w').store → by_reader (Ok b) → adds_reader (Ok b) → opens n (actions.Follow modes.ManagedCheckpoint managed skips) reply ≡ true → HasTasks w' n (follower_tasks modes.ManagedCheckpoint)
-  taken-opens managed skips b t replied objects is =
+  taken-opens : (managed : Option (ℕ × ℕ)) (skips : Bool) (lag : Option ℕ) (b : Follower × PollAnswer) → TakesLease k settings.extractor next.made (lifetime_of managed) skips (lag_of lag) command.moment (state_of w).store (Ok b) (state_of w').store → by_reader (Ok b) → adds_reader (Ok b) → opens n (actions.Follow modes.ManagedCheckpoint managed skips lag) reply ≡ true → HasTasks w' n (follower_tasks modes.ManagedCheckpoint)
+  taken-opens managed skips lag b t replied objects is =
       let takes = ((t.takes).some w.catalogue refl).2 in
       let all = (takes.sees).sees w.stored refl tt in
-      reader-opens modes.ManagedCheckpoint managed skips b (t.answers).0 (ap (λ (g : Follower). g.tasks) all.2) replied objects is
+      reader-opens modes.ManagedCheckpoint managed skips lag b (t.answers).0 (ap (λ (g : Follower). g.tasks) all.2) replied objects is
 
-  managed-opens : (managed : Option (ℕ × ℕ)) (skips : Bool) (r : Result (Follower × PollAnswer) SlateError) → OpensManaged k settings.extractor next.made (lifetime_of managed) (interval_of managed) skips command.moment (state_of w).store r (state_of w').store → by_reader r → adds_reader r → opens n (actions.Follow modes.ManagedCheckpoint managed skips) reply ≡ true → HasTasks w' n (follower_tasks modes.ManagedCheckpoint)
-  managed-opens managed skips (Err e) does replied objects is = absurd (refused-opens n e (actions.Follow modes.ManagedCheckpoint managed skips) (sym (ap (opens n (actions.Follow modes.ManagedCheckpoint managed skips)) replied) ∙ is))
-  managed-opens managed skips (Ok b) does replied objects is =
+  managed-opens : (managed : Option (ℕ × ℕ)) (skips : Bool) (lag : Option ℕ) (r : Result (Follower × PollAnswer) SlateError) → OpensManaged k settings.extractor next.made (lifetime_of managed) (interval_of managed) skips (lag_of lag) command.moment (state_of w).store r (state_of w').store → by_reader r → adds_reader r → opens n (actions.Follow modes.ManagedCheckpoint managed skips lag) reply ≡ true → HasTasks w' n (follower_tasks modes.ManagedCheckpoint)
+  managed-opens managed skips lag (Err e) does replied objects is = absurd (refused-opens n e (actions.Follow modes.ManagedCheckpoint managed skips lag) (sym (ap (opens n (actions.Follow modes.ManagedCheckpoint managed skips lag)) replied) ∙ is))
+  managed-opens managed skips lag (Ok b) does replied objects is =
       by-option (lease_refusal (lifetime_of managed) (interval_of managed))
-      (λ none. taken-opens managed skips b (does.takes none) replied objects is)
+      (λ none. taken-opens managed skips lag b (does.takes none) replied objects is)
       (λ error refused. absurd (let c = some-of (λ error. (◌≡◌ {A = Result (Follower × PollAnswer) SlateError} (Ok b) (Err error)) × Untouched next.made (state_of w).store (state_of w').store) (lease_refusal (lifetime_of managed) (interval_of managed)) error refused does.refused in let no = c.0 in cc))
 
   handle-opens : (wal : Bool) (r : Result Handle SlateError) → OpensHandle k settings.extractor next.made wal settings.options.max_unflushed_bytes (option_tasks settings.options) (state_of w).store r (state_of w').store → reply ≡ reply_to (λ (h : Handle). replies.Handle (length w.objects)) r → w'.objects ≡ w.objects ++ added AHandle r → opens n (actions.Open wal) reply ≡ true → HasTasks w' n (option_tasks settings.options)
@@ -113,15 +113,15 @@ module _ (settings : Settings) (w w' : World) (command : Command) (reply : Reply
   opened-has (actions.Open wal) names is =
       let d = subst (λ t. DoesBy k settings command t next.made (state_of w) reply (state_of w')) (ap target_of names) next.does in
       handle-opens wal d.result d.does d.replied d.objects is
-  opened-has (actions.Follow modes.FollowLatest managed skips) names is =
+  opened-has (actions.Follow modes.FollowLatest managed skips lag) names is =
       let d = subst (λ t. DoesBy k settings command t next.made (state_of w) reply (state_of w')) (ap target_of names) next.does in
-      rebuilt-opens modes.FollowLatest managed skips (d.0).result (d.0).does (d.0).replied (d.0).objects is
-  opened-has (actions.Follow (modes.Checkpoint id) managed skips) names is =
+      rebuilt-opens modes.FollowLatest managed skips lag (d.0).result (d.0).does (d.0).replied (d.0).objects is
+  opened-has (actions.Follow (modes.Checkpoint id) managed skips lag) names is =
       let d = subst (λ t. DoesBy k settings command t next.made (state_of w) reply (state_of w')) (ap target_of names) next.does in
-      rebuilt-opens (modes.Checkpoint id) managed skips (d.0).result (d.0).does (d.0).replied (d.0).objects is
-  opened-has (actions.Follow modes.ManagedCheckpoint managed skips) names is =
+      rebuilt-opens (modes.Checkpoint id) managed skips lag (d.0).result (d.0).does (d.0).replied (d.0).objects is
+  opened-has (actions.Follow modes.ManagedCheckpoint managed skips lag) names is =
       let d = subst (λ t. DoesBy k settings command t next.made (state_of w) reply (state_of w')) (ap target_of names) next.does in
-      managed-opens managed skips d.result d.does d.replied d.objects is
+      managed-opens managed skips lag d.result d.does d.replied d.objects is
   opened-has action names is = absurd (cc)
 
 -- ---- after a step, and after steps

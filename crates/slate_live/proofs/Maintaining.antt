@@ -1,5 +1,5 @@
 -- What a checkpoint and a sweep leave of a world: the store goes on, and no object changes.
-use Rattle.std.proofs.Common.{◌≡◌, ℕ, Some, refl, sym, ap, ◌∙◌, arith}
+use Rattle.std.proofs.Common.{◌≡◌, ℕ, inl, Some, refl, sym, ap, ◌∙◌, arith}
 use Rattle.std.specs.List.{slice_get}
 use Rattle.slate_store.specs.Objects.{last_log, Objects, latest_manifest}
 use Rattle.slate_store.specs.Content.{IsSound, content}
@@ -8,7 +8,7 @@ use Rattle.slate_model.specs.Catalogue.{catalogue_of}
 use Rattle.slate_model.specs.Handle.{Handle}
 use Rattle.slate_model.specs.Object.{Follower as AFollower, Object, tables_of}
 use Rattle.slate_model.proofs.Maintained.{Maintained}
-use Rattle.slate_model.proofs.Logging.{OfLine, none-put_logs, stay-follow}
+use Rattle.slate_model.proofs.Logging.{OfLine, PastLine, none-put_logs, stay-follow}
 use Rattle.slate_model.proofs.Moving.{Follows, still-valid}
 use Rattle.slate_model.proofs.Prefixes.{prefix-same}
 use Rattle.slate_live.specs.Represents.{IsHeld, Holds, IsHandleAt, IsValid, IsValidHandle}
@@ -33,9 +33,11 @@ module _ (w : World) (o : Objects) (is_sound : IsSound o) (holds : Holds o w) (v
         latest_is = next.1;
         epochs = omega (arith, epoch);
         tabled = omega (arith, number);
+        leaps = inl number;
         marked = λ same. next.4;
         logs = stay-follow o o' latest.manifest.replay_after_wal_id next.0.manifest.replay_after_wal_id (sym next.4) (m.logs latest is);
         logs_are = none-put_logs o o' m.logs_are (OfLine w.stored);
+        news = none-put_logs o o' m.logs_are (PastLine w.stored);
         goes = m.goes (last_log latest.manifest.replay_after_wal_id o);
       }
 

@@ -16,7 +16,7 @@ use Rattle.slate_model.specs.Handle.{Handle}
 use Rattle.slate_model.specs.Object.{Object, Handle as AHandle, Follower as AFollower}
 use Rattle.slate_model.specs.Open.{found_log, next_manifest, open_changes, opened_handle, opened_manifest}
 use Rattle.slate_model.proofs.Adding.{Lasts}
-use Rattle.slate_model.proofs.Logging.{LogsAre, OfLine, logs-are_same, logs-same, none-put_logs, stay-follow, stay-go}
+use Rattle.slate_model.proofs.Logging.{LogsAre, OfLine, PastLine, logs-are_same, logs-same, none-put_logs, stay-follow, stay-go}
 use Rattle.slate_model.proofs.Maintained.{Maintained}
 use Rattle.slate_model.proofs.Moving.{Follows, Moved}
 use Rattle.slate_model.proofs.Opening.{opened-follows, opened-logs_are, same-table_at}
@@ -75,9 +75,11 @@ module _ (w : World) (o : Objects) where
           latest_is = is;
           epochs = omega arith;
           tabled = omega arith;
+          leaps = inl refl;
           marked = λ same. refl;
           logs = stay-follow o o _ _ refl (logs-same _ _ o o refl);
           logs_are = logs-are_same (OfLine w.stored) o o refl;
+          news = logs-are_same (PastLine w.stored) o o refl;
           goes = stay-go _ o o (logs-same _ _ o o refl);
         },
       );

@@ -1,20 +1,20 @@
 -- What a begun poll puts next is planned for its lease, after the manifest that it read or put last.
-use Rattle.std.proofs.Common.{◌≡◌, ◌+◌, ◌==◌, ◌&&◌, max, not, ℕ, ℤ, Bool, true, false, if◌then◌else◌, List, Option, Some, None, Ok, Err, ap, refl, sym, subst, inl, inr}
+use Rattle.std.proofs.Common.{◌≡◌, ◌+◌, ◌-◌, ◌==◌, ◌&&◌, max, not, ℕ, ℤ, Bool, true, false, if◌then◌else◌, List, Option, Some, None, Ok, Err, ap, refl, sym, subst, inl, inr}
 use Rattle.std.specs.Option.{is_some}
-use Rattle.std.specs.Prelude.{nat_lt}
+use Rattle.std.specs.Prelude.{◌||◌, nat_lt}
 use Rattle.slate_store.specs.Checkpoints.{Plan, found, to_refresh, to_write}
-use Rattle.slate_store.specs.Objects.{Objects, last_log}
+use Rattle.slate_store.specs.Objects.{Objects, last_log, log_at}
 use Rattle.slate_store.specs.declared.objects.Checkpoint.{Checkpoint}
 use Rattle.slate_store.specs.declared.objects.VersionedManifest.{VersionedManifest}
 use Rattle.slate_types.specs.declared.batches.Batch.{Batch}
 use Rattle.slate_errors.specs.declared.errors.SlateError.TheVariants as errors
-use Rattle.slate_model.specs.Begun.{Begun, Breaks, Ends, Ended, Fails, Goes, Puts, AsksLast, ReadsAgain, ReadsLatest, ReadsLog, Stage, Turn, asked_last, asked_lease, begun_at, committed, decided, emptied, kept_lease, leads_on, noted, overtaken_by, put_by, read_again, read_log, replayed, replaying, with_log}
+use Rattle.slate_model.specs.Begun.{Begun, Breaks, Ends, Ended, Fails, Goes, Puts, AsksLast, LooksAt, ReadsAgain, ReadsLatest, ReadsLog, Stage, Turn, asked_last, asked_lease, begun_at, committed, decided, emptied, greatest_number, kept_lease, leads_on, looked_at, noted, overtaken_by, put_by, reached_number, read_again, read_log, replayed, replaying, with_log}
 use Rattle.slate_model.specs.Follower.{Follower}
 use Rattle.slate_model.specs.Lease.{differs, is_due, leased}
 use Rattle.slate_model.specs.Stood.{IsPlanned}
 use Rattle.slate_model.specs.declared.leases.Lease.{Lease}
 use Rattle.slate_replay.specs.declared.replays.Replayed.TheVariants as replays
-use Rattle.slate_follow.specs.Stepping.{MeetsAt}
+use Rattle.slate_follow.specs.Stepping.{LooksTo, MeetsAt}
 use Rattle.slate_live.specs.Standing.{IsStaged, PlansFor}
 use Rattle.slate_model.proofs.Leased.{leased-is}
 
@@ -94,12 +94,25 @@ committed-planned reader next given false begun = tt
 overtaken-planned : (reader : Follower) (begun : Begun) → GoesPlanned (overtaken_by reader begun)
 overtaken-planned reader begun = if-planned (begun.overtaken == 7) (Fails (errors.TransactionalObjectTimeout 8)) (Goes (begun_at begun.moment (begun.overtaken + 1) begun.history reader)) tt tt
 
-asked-last-planned : (last : ℕ) (begun : Begun) → GoesPlanned (Goes (asked_last last begun))
-asked-last-planned last begun = by (nat_lt begun.mark last)
+asked-last-planned : (reader : Follower) (last : ℕ) (begun : Begun) → GoesPlanned (Goes (asked_last reader last begun))
+asked-last-planned reader last begun = by (nat_lt begun.mark last) (reader.lag == 0)
   where
-    by : (more : Bool) → GoesPlanned (Goes (if more then record begun { stage = ReadsLog last; history = with_log last begun.history } else record begun { stage = ReadsAgain }))
-    by true = tt
-    by false = tt
+    by : (more none : Bool) → GoesPlanned (Goes (if more then record begun { stage = (if none then ReadsLog last else LooksAt last last); history = with_log last begun.history } else record begun { stage = ReadsAgain }))
+    by true true = tt
+    by true false = tt
+    by false none = tt
+
+looked-planned : (reader : Follower) (latest : VersionedManifest) (id last : ℕ) (batches : List Batch) (begun : Begun) → begun.latest ≡ Some latest → GoesPlanned (looked_at reader latest id last batches begun)
+looked-planned reader latest id last batches begun read =
+    let newest = greatest_number batches in
+    let waits = nat_lt (reached_number begun) newest || id == begun.mark + 1 in
+    let back : Turn = Goes (record begun { stage = LooksAt (id - 1) last }) in
+    if-planned (nat_lt (reached_number begun + reader.lag) newest) (Goes (record begun { stage = ReadsLog last })) (if waits then replayed latest begun else back) tt
+    (if-planned waits (replayed latest begun) back (replayed-planned latest begun read) tt)
+
+looks-planned : (reader : Follower) (latest : VersionedManifest) (id last : ℕ) (begun : Begun) (log : Option (List Batch)) (turn : Turn) → begun.latest ≡ Some latest → LooksTo reader latest id last begun log turn → GoesPlanned turn
+looks-planned reader latest id last begun None turn read turn_is = subst GoesPlanned (sym turn_is) tt
+looks-planned reader latest id last begun (Some batches) turn read turn_is = subst GoesPlanned (sym turn_is) (looked-planned reader latest id last batches begun read)
 
 read-planned : (latest : VersionedManifest) (last : ℕ) (fresh : List Batch) (begun : Begun) → begun.latest ≡ Some latest → GoesPlanned (read_log latest last fresh begun)
 read-planned latest last fresh begun read =
@@ -116,7 +129,8 @@ pub meets-planned : (stage : Stage) (reader : Follower) (begun : Begun) (o o' : 
 meets-planned ReadsLatest reader begun o o' turn (latest, is, turn_is, same) = subst GoesPlanned (sym turn_is) (decided-planned reader latest begun.lease (noted latest begun) refl)
 meets-planned (Puts next given replaces) reader begun o o' turn (inl (free, turn_is, put)) = subst GoesPlanned (sym turn_is) (committed-planned reader next given replaces begun)
 meets-planned (Puts next given replaces) reader begun o o' turn (inr (there, turn_is, same)) = subst GoesPlanned (sym turn_is) (overtaken-planned reader begun)
-meets-planned AsksLast reader begun o o' turn (turn_is, same) = subst GoesPlanned (sym turn_is) (asked-last-planned (last_log begun.mark o) begun)
+meets-planned AsksLast reader begun o o' turn (turn_is, same) = subst GoesPlanned (sym turn_is) (asked-last-planned reader (last_log begun.mark o) begun)
+meets-planned (LooksAt id last) reader begun o o' turn (latest, read, looks, same) = looks-planned reader latest id last begun (log_at id o) turn read looks
 meets-planned (ReadsLog last) reader begun o o' turn (latest, fresh, replays.Whole, read, n, turn_is, same) = subst GoesPlanned (sym turn_is) (read-planned latest last fresh begun read)
 meets-planned (ReadsLog last) reader begun o o' turn (latest, fresh, (replays.Truncated id), read, n, turn_is, same) = subst GoesPlanned (sym turn_is) tt
 meets-planned ReadsAgain reader begun o o' turn (latest, is, turn_is, same) = subst GoesPlanned (sym turn_is) (again-planned latest begun)

@@ -61,7 +61,7 @@ module _ (w : World) (polls : List (Option Begun)) where
   }
 
   pub reach-polled : (o : Objects) (n : ℕ) (reader : Follower) (begun : Begun) → ReachesTo (w.owed n) o w reader begun → ReachesTo (w.owed n) o polled reader begun
-  reach-polled o n reader begun r = record { stored = r.stored; tabled = r.tabled; anew = r.anew; next = r.next }
+  reach-polled o n reader begun r = record { stored = r.stored; tabled = r.tabled; apart = r.apart; anew = r.anew; next = r.next }
 
   pub at-polled : (o : Objects) (n : ℕ) (begun : Begun) → StandsAt o w n begun → StandsAt o polled n begun
   at-polled o n begun (reader, there, open_, stands) =

@@ -162,12 +162,12 @@ module _ (settings : Settings) (w : World) (reached : IsReached w) (segments : A
       by-option f.result
       (λ live. by-bool (is_pinned f.mode)
       (λ stays. kept-broken (p.pinned live stays).1 is)
-      (λ free. absurd (let open_ = ((p.rebuilds live free).answer).3 in cc)))
+      (λ free. absurd (let open_ = ((p.rebuilds live free).answer).4 in cc)))
       (λ q shut. absurd (let no = (some-of (λ q. (◌≡◌ {A = Result PollAnswer SlateError} (Ok answer) (Err (closed_error q))) × (after ≡ (state_of w).store)) f.result q shut p.closed).0 in cc))
 
   leased-broken : (lease : Lease) (r : Result PollAnswer SlateError) → is_managed f.mode ≡ true → PollsLeased k settings.extractor made lease moment f (state_of w).store r f' after → f'.result ≡ broken → Full
-  leased-broken lease (Ok answer) managed (inl once) is = absurd (let open_ = ((once.round).answers).2 in cc)
-  leased-broken lease (Ok answer) managed (inr twice) is = absurd (let open_ = ap (λ (g : Follower). g.result) (twice.answers).1 ∙ ((twice.round).answers).2 in cc)
+  leased-broken lease (Ok answer) managed (inl once) is = absurd (let open_ = ((once.round).answers).3 in cc)
+  leased-broken lease (Ok answer) managed (inr twice) is = absurd (let open_ = ap (λ (g : Follower). g.result) (twice.answers).1 ∙ ((twice.round).answers).3 in cc)
   leased-broken lease (Err e) managed (inl once) is =
       let recorded : poll_result e ≡ broken = sym (ap (λ (g : Follower). g.result) (once.round).failed) ∙ is in
       inl (leased-full lease (Err e) managed once.round (ap Err (recorded-is e recorded)))
@@ -246,8 +246,8 @@ module _ (settings : Settings) (w w' : World) (command : Command) (reply : Reply
         snapshot = λ snapshot. tt;
         follower = λ n f f' at names a is. full-then (follower-broken settings w reached segments n f f' at (all n (AFollower f) at) next.made command.moment (state_of w').store (call_of command.action) reply w'.writes a is);
         opened = λ keeps_log h d. tt;
-        followed = λ mode skips b d is. absurd (let open_ = (d.answer).3 in cc);
-        taken = λ lifetime skips b d is. absurd (let open_ = (d.answers).2 in cc);
+        followed = λ mode skips lag b d is. absurd (let open_ = (d.answer).4 in cc);
+        taken = λ lifetime skips lag b d is. absurd (let open_ = (d.answers).3 in cc);
       }) next.does
 
   module _ (n : ℕ) (names : command.action ≡ actions.Poll n) (replied : reply ≡ refusal errors.InvalidDBState) where

@@ -14,7 +14,7 @@ use Rattle.slate_errors.specs.declared.errors.SlateError.{SlateError}
 use Rattle.slate_model.specs.Begun.{Begun}
 use Rattle.slate_model.specs.Catalogue.{catalogue_of}
 use Rattle.slate_model.specs.declared.answers.PollAnswer.{PollAnswer}
-use Rattle.slate_model.specs.Follow.{Rebuilds, unseen}
+use Rattle.slate_model.specs.Follow.{Rebuilds, SeesOwed, unseen}
 use Rattle.slate_model.specs.Follower.{Follower, is_managed, kept_follower, rebuilt}
 use Rattle.slate_model.specs.Handle.{Handle, kept_handle}
 use Rattle.slate_model.specs.Known.{Known}
@@ -30,13 +30,13 @@ use Rattle.slate_model.specs.Stores.{by_catalogue, by_objects}
 use Rattle.slate_model.proofs.Flushed.{part_le}
 use Rattle.slate_model.proofs.Logging.{LogsAre, OfLine}
 use Rattle.slate_model.proofs.Maintained.{Maintained, checkpoint-maintains, checkpoints-reduced, sweep-maintains, sweeps-reduced}
-use Rattle.slate_model.proofs.Reduced.{catalogued, holding, opens-reduced, rebuilds-reduced}
+use Rattle.slate_model.proofs.Reduced.{catalogued, holding, opens-reduced, owed-known-by, rebuilds-reduced, rebuilt-whole}
 use Rattle.slate_script.specs.declared.commands.Command.{Command}
 use Rattle.slate_script.specs.declared.replies.Reply.{Reply}
 use Rattle.slate_script.specs.declared.replies.Reply.TheVariants as replies
 use Rattle.slate_live.specs.declared.states.Write.{Write}
 use Rattle.slate_live.specs.Calls.{ArePolls, Call, Write as WriteCall, Merge as MergeCall, Flush, Refresh, Compact, Get, Scan, Seek, Close, Poll, Status, FindTime, FindNumber, Nothing, call_of, named, Target, NewHandle, NewSnapshot, NewFollower, NewCheckpoint, WholeStore, OfWrite, OfObject, at_snapshot, target_of}
-use Rattle.slate_live.specs.Commands.{Acts, ActsAt, ActsOn, Adds, Does, DoesBy, DoesToStore, OpensSnapshot, ReadsSnapshot, added, asked_reply, interval_of, lifetime_of, write_reply}
+use Rattle.slate_live.specs.Commands.{Acts, ActsAt, ActsOn, Adds, Does, DoesBy, DoesToStore, OpensSnapshot, ReadsSnapshot, added, asked_reply, interval_of, lag_of, lifetime_of, write_reply}
 use Rattle.slate_live.specs.Maintenance.{CommitsTo, SweepsTo}
 use Rattle.slate_live.specs.Replies.{followed_reply, reply_to}
 use Rattle.slate_live.specs.Standing.{StandsBeside}
@@ -44,14 +44,14 @@ use Rattle.slate_live.specs.Represents.{IsHandleAt, IsHeld, Holds, IsValid, Repr
 use Rattle.slate_live.specs.Settings.{Settings, option_tasks}
 use Rattle.slate_live.specs.State.{Live, State, running}
 use Rattle.slate_live.specs.World.{NextWhole, World, grown_by, state_of, stored_after}
-use Rattle.slate_live.proofs.Following.{new-held, new-stored, new-valid, seen-kept, seen-mark, with_segments}
+use Rattle.slate_live.proofs.Following.{new-held, new-valid, owed-lined, seen-kept, seen-mark, view-stored, with_segments}
 use Rattle.slate_live.proofs.Knowing.{AfterOf, follower-after, follower-led, handle-after, handle-led}
 use Rattle.slate_model.proofs.Owing.{owed_line}
 use Rattle.slate_store.specs.declared.reader_modes.DbReaderMode.{DbReaderMode}
 use Rattle.slate_store.specs.declared.reader_modes.DbReaderMode.TheVariants as modes
 use Rattle.slate_model.specs.Managed.{OpensManaged}
 use Rattle.slate_live.proofs.Leading.{followed-leads, followers-over, Leads, follower-leads, pushed-leads, is_latest, leads-same, moved-leads, the_latest, valid-over}
-use Rattle.slate_live.proofs.Leasing.{leased_whole}
+use Rattle.slate_live.proofs.Leasing.{leased_whole, taken_line}
 use Rattle.slate_live.proofs.Maintaining.{after, after-holds, after-valid, maintained-leads}
 use Rattle.slate_live.proofs.Taking.{Taken, taken, taken-after}
 use Rattle.slate_live.proofs.Onward.{Onward, before-added, beside-onward, onward-maintained, onward-moved, onward-opened, onward-same, onward-unopened}
@@ -435,53 +435,61 @@ module _ (settings : Settings) (w : World) (o : Objects) (is_sound : IsSound o) 
     by (Some (AFollower g)) at d = led-only _ (unnamed (NewSnapshot n) is refl) d (λ a. only (Some (AFollower g)) at a)
     by None at d = led-only _ (unnamed (NewSnapshot n) is refl) d (λ a. only None at a)
 
-  -- an opening of a follower that keeps no checkpoint
-  led-followed : (mode : DbReaderMode) (managed : Option (ℕ × ℕ)) (skips : Bool) → is_managed mode ≡ false → target_of command.action ≡ NewFollower mode managed skips →
-      ((after : Objects) (objects : List Object) → Adds (Rebuilds (by_catalogue w.stored w.catalogue) settings.extractor mode skips true unseen) (λ (b : Follower × PollAnswer). AFollower b.0) (λ n (b : Follower × PollAnswer). followed_reply n b.1) (state_of w) reply (state_of (world after objects)) × (made ≡ 0) →
-      Does (by_catalogue w.stored w.catalogue) settings made (state_of w) command reply (state_of (world after objects))) → (r : Result (Follower × PollAnswer) SlateError) → Rebuilds (by_objects (Some o)) settings.extractor mode skips true unseen (holding o w.faults) r store → made ≡ 0 →
+  -- the opening of the world, of a follower that keeps no checkpoint
+  followed-known : (mode : DbReaderMode) (skips : Bool) (lag : ℕ) (r : Result (Follower × PollAnswer) SlateError) → Rebuilds (by_objects (Some o)) settings.extractor mode skips true lag (SeesOwed (by_objects (Some o)) mode skips lag) unseen (holding o w.faults) r (holding o store.faults) →
+      Rebuilds (by_catalogue w.stored (catalogue_of o)) settings.extractor mode skips true lag (SeesOwed (by_catalogue w.stored (catalogue_of o)) mode skips lag) unseen (catalogued o w.faults) (rebuilt-whole mode skips lag (λ (b : Follower). owed_line mode skips o b.view w.stored) r) (catalogued o store.faults)
+  followed-known mode skips lag r d =
+      rebuilds-reduced settings.extractor w.stored mode skips true lag (SeesOwed (by_objects (Some o)) mode skips lag) (SeesOwed (by_catalogue w.stored (catalogue_of o)) mode skips lag) unseen unseen o o w.faults store.faults is_sound holds.stored tt
+      (λ (b : Follower). owed_line mode skips o b.view w.stored) (λ b answer v all. owed-known-by w.stored mode skips true lag o b answer is_sound holds.stored v all) r d
+
+  -- an opening of one
+  led-followed : (mode : DbReaderMode) (managed : Option (ℕ × ℕ)) (skips : Bool) (asked : Option ℕ) → is_managed mode ≡ false → target_of command.action ≡ NewFollower mode managed skips asked →
+      ((after : Objects) (objects : List Object) → Adds (Rebuilds (by_catalogue w.stored w.catalogue) settings.extractor mode skips true (lag_of asked) (SeesOwed (by_catalogue w.stored w.catalogue) mode skips (lag_of asked)) unseen) (λ (b : Follower × PollAnswer). AFollower b.0) (λ n (b : Follower × PollAnswer). followed_reply n b.1) (state_of w) reply (state_of (world after objects)) × (made ≡ 0) →
+      Does (by_catalogue w.stored w.catalogue) settings made (state_of w) command reply (state_of (world after objects))) → (r : Result (Follower × PollAnswer) SlateError) → Rebuilds (by_objects (Some o)) settings.extractor mode skips true (lag_of asked) (SeesOwed (by_objects (Some o)) mode skips (lag_of asked)) unseen (holding o w.faults) r store → made ≡ 0 →
       reply ≡ reply_to (λ (b : Follower × PollAnswer). followed_reply (length (map kept w.objects)) b.1) r → live_objects ≡ map kept w.objects ++ added (λ (b : Follower × PollAnswer). AFollower b.0) r → writes ≡ w.writes → Led
-  led-followed mode managed skips unmanaged is does (Ok b) d none replied objects same_writes =
-      let by_held = subst (λ x. Rebuilds (by_objects (Some o)) settings.extractor mode skips true unseen (holding o w.faults) (Ok b) x) (store-is o d.kept) d in
-      let known = rebuilds-reduced settings.extractor w.stored mode skips true unseen unseen o o w.faults store.faults is_sound holds.stored tt (Ok b) by_held in
+  led-followed mode managed skips asked unmanaged is does (Ok b) d none replied objects same_writes =
+      let by_held = subst (λ x. Rebuilds (by_objects (Some o)) settings.extractor mode skips true (lag_of asked) (SeesOwed (by_objects (Some o)) mode skips (lag_of asked)) unseen (holding o w.faults) (Ok b) x) (store-is o d.kept) d in
+      let known = followed-known mode skips (lag_of asked) (Ok b) by_held in
       let all = d.sees o w.stored refl (o, refl, is_sound, sym holds.stored) tt in
       let v = d.can o refl in
-      let mark = seen-mark (Some o) w.stored mode skips o b.0 b.1 all in
-      let new = with_segments (b.0).segments (rebuilt mode skips (b.0).view (owed_line mode skips o (b.0).view w.stored) (b.0).mark) in
-      let there = new-stored (b.0).segments w.stored mode skips true o (b.0).view is_sound holds.stored v (b.0).mark mark in
+      let line = owed_line mode skips o (b.0).view w.stored in
+      let lined = owed-lined w.stored mode skips true o (b.0).view is_sound holds.stored v (lag_of asked) (b.0).mark (seen-mark (Some o) w.stored mode skips (lag_of asked) o b.0 b.1 all) in
+      let new = with_segments (b.0).segments (rebuilt mode skips (lag_of asked) (b.0).view line (b.0).mark) in
+      let there = view-stored w.stored mode skips true o (b.0).view is_sound holds.stored v in
       let objects' = w.objects ++ AFollower new ∷ [] in
       record {
         after = o;
         objects = objects';
         modelled = d.kept;
-        kept = objects ∙ (ap (λ x. map kept w.objects ++ AFollower x ∷ []) (seen-kept (Some o) w.stored mode skips o b.0 b.1 all) ∙ sym (map-append kept w.objects (AFollower new ∷ [])));
-        leads = over (unnamed (NewFollower mode managed skips) is refl) (followed-leads w o is_sound holds valid reads new v.0 v.1 there (new-valid (b.0).segments w.stored mode skips true o (b.0).view is_sound holds.stored v (b.0).mark mark unmanaged) (new-held (b.0).segments w.stored mode skips true o (b.0).view is_sound holds.stored v (b.0).mark mark));
-        onward = on (unnamed (NewFollower mode managed skips) is refl) (onward-same w o is_sound holds valid reads objects' (before-added w o is_sound holds valid reads (AFollower new) (λ a same. absurd (cc))));
+        kept = objects ∙ (ap (λ x. map kept w.objects ++ AFollower x ∷ []) (seen-kept (Some o) w.stored mode skips (lag_of asked) o b.0 b.1 all) ∙ sym (map-append kept w.objects (AFollower new ∷ [])));
+        leads = over (unnamed (NewFollower mode managed skips asked) is refl) (followed-leads w o is_sound holds valid reads new v.0 v.1 there (new-valid (b.0).segments w.stored mode skips true (lag_of asked) o (b.0).view v line (b.0).mark lined unmanaged) (new-held (b.0).segments w.stored mode skips true (lag_of asked) o (b.0).view v line (b.0).mark lined));
+        onward = on (unnamed (NewFollower mode managed skips asked) is refl) (onward-same w o is_sound holds valid reads objects' (before-added w o is_sound holds valid reads (AFollower new) (λ a same. absurd (cc))));
         does = does o objects' (
           record {
             result = Ok (new, b.1);
             replied = replied ∙ ap (λ n. followed_reply n b.1) (length-map w.objects kept);
-            does = subst (λ c. Rebuilds (by_catalogue w.stored c) settings.extractor mode skips true unseen (record { objects = Some c; faults = w.faults }) (Ok (new, b.1)) (catalogued o store.faults)) holds.catalogue known;
+            does = subst (λ c. Rebuilds (by_catalogue w.stored c) settings.extractor mode skips true (lag_of asked) (SeesOwed (by_catalogue w.stored c) mode skips (lag_of asked)) unseen (record { objects = Some c; faults = w.faults }) (Ok (new, b.1)) (catalogued o store.faults)) holds.catalogue known;
             objects = refl;
             writes = same_writes;
           },
           none,
         );
       }
-  led-followed mode managed skips unmanaged is does (Err e) d none replied objects same_writes =
-      let by_held = subst (λ x. Rebuilds (by_objects (Some o)) settings.extractor mode skips true unseen (holding o w.faults) (Err e) x) (store-is o d.kept) d in
-      let known = rebuilds-reduced settings.extractor w.stored mode skips true unseen unseen o o w.faults store.faults is_sound holds.stored tt (Err e) by_held in
+  led-followed mode managed skips asked unmanaged is does (Err e) d none replied objects same_writes =
+      let by_held = subst (λ x. Rebuilds (by_objects (Some o)) settings.extractor mode skips true (lag_of asked) (SeesOwed (by_objects (Some o)) mode skips (lag_of asked)) unseen (holding o w.faults) (Err e) x) (store-is o d.kept) d in
+      let known = followed-known mode skips (lag_of asked) (Err e) by_held in
       record {
         after = o;
         objects = w.objects;
         modelled = d.kept;
         kept = objects ∙ append-nil (map kept w.objects);
-        leads = over (unnamed (NewFollower mode managed skips) is refl) (leads-same w o is_sound holds valid reads);
-        onward = on (unnamed (NewFollower mode managed skips) is refl) (onward-same w o is_sound holds valid reads w.objects same-handles);
+        leads = over (unnamed (NewFollower mode managed skips asked) is refl) (leads-same w o is_sound holds valid reads);
+        onward = on (unnamed (NewFollower mode managed skips asked) is refl) (onward-same w o is_sound holds valid reads w.objects same-handles);
         does = does o w.objects (
           record {
             result = Err e;
             replied = replied;
-            does = subst (λ c. Rebuilds (by_catalogue w.stored c) settings.extractor mode skips true unseen (record { objects = Some c; faults = w.faults }) (Err e) (catalogued o store.faults)) holds.catalogue known;
+            does = subst (λ c. Rebuilds (by_catalogue w.stored c) settings.extractor mode skips true (lag_of asked) (SeesOwed (by_catalogue w.stored c) mode skips (lag_of asked)) unseen (record { objects = Some c; faults = w.faults }) (Err e) (catalogued o store.faults)) holds.catalogue known;
             objects = sym (append-nil w.objects);
             writes = same_writes;
           },
@@ -490,10 +498,10 @@ module _ (settings : Settings) (w : World) (o : Objects) (is_sound : IsSound o) 
       }
 
   -- an opening of one that does
-  led-leased : (managed : Option (ℕ × ℕ)) (skips : Bool) → target_of command.action ≡ NewFollower modes.ManagedCheckpoint managed skips → (r : Result (Follower × PollAnswer) SlateError) →
-      OpensManaged (by_objects (Some o)) settings.extractor made (lifetime_of managed) (interval_of managed) skips command.moment (holding o w.faults) r store →
+  led-leased : (managed : Option (ℕ × ℕ)) (skips : Bool) (asked : Option ℕ) → target_of command.action ≡ NewFollower modes.ManagedCheckpoint managed skips asked → (r : Result (Follower × PollAnswer) SlateError) →
+      OpensManaged (by_objects (Some o)) settings.extractor made (lifetime_of managed) (interval_of managed) skips (lag_of asked) command.moment (holding o w.faults) r store →
       reply ≡ reply_to (λ (b : Follower × PollAnswer). followed_reply (length (map kept w.objects)) b.1) r → live_objects ≡ map kept w.objects ++ added (λ (b : Follower × PollAnswer). AFollower b.0) r → writes ≡ w.writes → Led
-  led-leased managed skips is r d replied objects same_writes = by r d replied objects where
+  led-leased managed skips asked is r d replied objects same_writes = by r d replied objects where
     lifetime : ℕ
     lifetime = lifetime_of managed
 
@@ -501,33 +509,33 @@ module _ (settings : Settings) (w : World) (o : Objects) (is_sound : IsSound o) 
     interval = interval_of managed
 
     o' : AfterOf store
-    o' = taken-after settings.extractor w.stored o w.faults made lifetime interval skips command.moment r store d
+    o' = taken-after settings.extractor w.stored o w.faults made lifetime interval skips (lag_of asked) command.moment r store d
 
-    took : (r : Result (Follower × PollAnswer) SlateError) → OpensManaged (by_objects (Some o)) settings.extractor made lifetime interval skips command.moment (holding o w.faults) r store → Taken settings.extractor w.stored o w.faults made lifetime interval skips command.moment o'.0 store.faults is_sound holds.stored r
-    took r d = taken settings.extractor w.stored o w.faults made lifetime interval skips command.moment o'.0 store.faults is_sound holds.stored r
-        (subst (λ x. OpensManaged (by_objects (Some o)) settings.extractor made lifetime interval skips command.moment (holding o w.faults) r x) (store-is o'.0 o'.1) d)
+    took : (r : Result (Follower × PollAnswer) SlateError) → OpensManaged (by_objects (Some o)) settings.extractor made lifetime interval skips (lag_of asked) command.moment (holding o w.faults) r store → Taken settings.extractor w.stored o w.faults made lifetime interval skips (lag_of asked) command.moment o'.0 store.faults is_sound holds.stored r
+    took r d = taken settings.extractor w.stored o w.faults made lifetime interval skips (lag_of asked) command.moment o'.0 store.faults is_sound holds.stored r
+        (subst (λ x. OpensManaged (by_objects (Some o)) settings.extractor made lifetime interval skips (lag_of asked) command.moment (holding o w.faults) r x) (store-is o'.0 o'.1) d)
 
-    opens : (r : Result (Follower × PollAnswer) SlateError) → OpensManaged (by_catalogue w.stored (catalogue_of o)) settings.extractor made lifetime interval skips command.moment (catalogued o w.faults) r (catalogued o'.0 store.faults) →
-        OpensManaged (by_catalogue w.stored w.catalogue) settings.extractor made lifetime interval skips command.moment (state_of w).store r (catalogued o'.0 store.faults)
-    opens r known = subst (λ c. OpensManaged (by_catalogue w.stored c) settings.extractor made lifetime interval skips command.moment (record { objects = Some c; faults = w.faults }) r (catalogued o'.0 store.faults)) holds.catalogue known
+    opens : (r : Result (Follower × PollAnswer) SlateError) → OpensManaged (by_catalogue w.stored (catalogue_of o)) settings.extractor made lifetime interval skips (lag_of asked) command.moment (catalogued o w.faults) r (catalogued o'.0 store.faults) →
+        OpensManaged (by_catalogue w.stored w.catalogue) settings.extractor made lifetime interval skips (lag_of asked) command.moment (state_of w).store r (catalogued o'.0 store.faults)
+    opens r known = subst (λ c. OpensManaged (by_catalogue w.stored c) settings.extractor made lifetime interval skips (lag_of asked) command.moment (record { objects = Some c; faults = w.faults }) r (catalogued o'.0 store.faults)) holds.catalogue known
 
-    by : (r : Result (Follower × PollAnswer) SlateError) → OpensManaged (by_objects (Some o)) settings.extractor made lifetime interval skips command.moment (holding o w.faults) r store →
+    by : (r : Result (Follower × PollAnswer) SlateError) → OpensManaged (by_objects (Some o)) settings.extractor made lifetime interval skips (lag_of asked) command.moment (holding o w.faults) r store →
         reply ≡ reply_to (λ (b : Follower × PollAnswer). followed_reply (length (map kept w.objects)) b.1) r → live_objects ≡ map kept w.objects ++ added (λ (b : Follower × PollAnswer). AFollower b.0) r → Led
     by (Ok b) d replied objects =
         let l = took (Ok b) d in
         let m = maintained-leads w o is_sound holds valid reads o'.0 l.maintained in
-        let new = leased_whole o'.0 w.stored skips (b.0).view b.0 in
+        let new = leased_whole modes.ManagedCheckpoint skips (lag_of asked) (b.0).view (taken_line w.stored skips o'.0 (b.0).view) b.0 in
         let objects' = w.objects ++ AFollower new ∷ [] in
         record {
           after = o'.0;
           objects = objects';
           modelled = o'.1;
           kept = objects ∙ (ap (λ x. map kept w.objects ++ AFollower x ∷ []) (l.new).kept ∙ sym (map-append kept w.objects (AFollower new ∷ [])));
-          leads = over (unnamed (NewFollower modes.ManagedCheckpoint managed skips) is refl)
+          leads = over (unnamed (NewFollower modes.ManagedCheckpoint managed skips asked) is refl)
               (followed-leads (after w o is_sound holds valid reads o'.0 l.maintained) o'.0 m.sound (after-holds w o is_sound holds valid reads o'.0 l.maintained) (after-valid w o is_sound holds valid reads o'.0 l.maintained) m.reads
               new (b.0).view (l.new).found (l.new).tables (l.new).valid (l.new).held);
-          onward = on (unnamed (NewFollower modes.ManagedCheckpoint managed skips) is refl) (onward-maintained w o is_sound holds valid reads o'.0 l.maintained objects' (before-added w o is_sound holds valid reads (AFollower new) (λ a same. absurd (cc))));
-          does = does-at (NewFollower modes.ManagedCheckpoint managed skips) is o'.0 objects' (record {
+          onward = on (unnamed (NewFollower modes.ManagedCheckpoint managed skips asked) is refl) (onward-maintained w o is_sound holds valid reads o'.0 l.maintained objects' (before-added w o is_sound holds valid reads (AFollower new) (λ a same. absurd (cc))));
+          does = does-at (NewFollower modes.ManagedCheckpoint managed skips asked) is o'.0 objects' (record {
             result = Ok (new, b.1);
             replied = replied ∙ ap (λ n. followed_reply n b.1) (length-map w.objects kept);
             does = opens (Ok (new, b.1)) l.known;
@@ -542,9 +550,9 @@ module _ (settings : Settings) (w : World) (o : Objects) (is_sound : IsSound o) 
           objects = w.objects;
           modelled = o'.1;
           kept = objects ∙ append-nil (map kept w.objects);
-          leads = over (unnamed (NewFollower modes.ManagedCheckpoint managed skips) is refl) (maintained-leads w o is_sound holds valid reads o'.0 l.maintained);
-          onward = on (unnamed (NewFollower modes.ManagedCheckpoint managed skips) is refl) (onward-maintained w o is_sound holds valid reads o'.0 l.maintained w.objects same-handles);
-          does = does-at (NewFollower modes.ManagedCheckpoint managed skips) is o'.0 w.objects (record {
+          leads = over (unnamed (NewFollower modes.ManagedCheckpoint managed skips asked) is refl) (maintained-leads w o is_sound holds valid reads o'.0 l.maintained);
+          onward = on (unnamed (NewFollower modes.ManagedCheckpoint managed skips asked) is refl) (onward-maintained w o is_sound holds valid reads o'.0 l.maintained w.objects same-handles);
+          does = does-at (NewFollower modes.ManagedCheckpoint managed skips asked) is o'.0 w.objects (record {
             result = Err e;
             replied = replied;
             does = opens (Err e) l.known;
@@ -604,11 +612,11 @@ module _ (settings : Settings) (w : World) (o : Objects) (is_sound : IsSound o) 
   led-by (NewHandle keeps_log) is d = led-opened keeps_log is d.result d.does d.replied d.objects d.writes
   led-by (NewSnapshot n) is d =
       led-sampled n (slice_get w.objects n) is refl (subst (λ found. OpensSnapshot n made found s reply s') (get-map kept w.objects n) d)
-  led-by (NewFollower modes.FollowLatest managed skips) is d =
-      led-followed modes.FollowLatest managed skips refl is (does-at (NewFollower modes.FollowLatest managed skips) is) (d.0).result (d.0).does d.1 (d.0).replied (d.0).objects (d.0).writes
-  led-by (NewFollower (modes.Checkpoint id) managed skips) is d =
-      led-followed (modes.Checkpoint id) managed skips refl is (does-at (NewFollower (modes.Checkpoint id) managed skips) is) (d.0).result (d.0).does d.1 (d.0).replied (d.0).objects (d.0).writes
-  led-by (NewFollower modes.ManagedCheckpoint managed skips) is d = led-leased managed skips is d.result d.does d.replied d.objects d.writes
+  led-by (NewFollower modes.FollowLatest managed skips asked) is d =
+      led-followed modes.FollowLatest managed skips asked refl is (does-at (NewFollower modes.FollowLatest managed skips asked) is) (d.0).result (d.0).does d.1 (d.0).replied (d.0).objects (d.0).writes
+  led-by (NewFollower (modes.Checkpoint id) managed skips asked) is d =
+      led-followed (modes.Checkpoint id) managed skips asked refl is (does-at (NewFollower (modes.Checkpoint id) managed skips asked) is) (d.0).result (d.0).does d.1 (d.0).replied (d.0).objects (d.0).writes
+  led-by (NewFollower modes.ManagedCheckpoint managed skips asked) is d = led-leased managed skips asked is d.result d.does d.replied d.objects d.writes
   led-by (NewCheckpoint lifetime) is d = led-checkpoint lifetime is d
   led-by WholeStore is d = led-swept is d
   led-by (OfWrite n) is d =

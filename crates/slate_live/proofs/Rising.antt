@@ -24,9 +24,10 @@ use Rattle.slate_model.specs.Handle.{CloseResult, Handle, accepted}
 use Rattle.slate_model.specs.Knowledge.{Knowledge}
 use Rattle.slate_model.specs.Known.{Known, Untouched}
 use Rattle.slate_model.specs.Lease.{to_keep}
-use Rattle.slate_model.specs.Managed.{KeepsLease, PollsManaged, PollsTwice, poll_result}
+use Rattle.slate_model.specs.Managed.{KeepsLease, PollsManaged, PollsTwice, follower_under, poll_result}
 use Rattle.slate_model.specs.declared.leases.Lease.{Lease}
 use Rattle.slate_model.proofs.Leased.{its-manifest}
+use Rattle.slate_model.proofs.Owing.{latest-view}
 use Rattle.slate_model.proofs.Planned.{keep-recheckpoints}
 use Rattle.slate_store.specs.declared.objects.Manifest.{Manifest}
 use Rattle.slate_store.specs.declared.reader_modes.DbReaderMode.{DbReaderMode}
@@ -49,7 +50,7 @@ use Rattle.slate_live.specs.Rising.{FollowerRises, HandleRises, Rise, Rises, Sta
 use Rattle.slate_live.specs.Settings.{Settings}
 use Rattle.slate_live.specs.State.{State}
 use Rattle.slate_live.specs.World.{World, NextWhole, state_of}
-use Rattle.slate_live.proofs.Following.{owed-above, owed-not_below}
+use Rattle.slate_live.proofs.Following.{polled-above}
 use Rattle.slate_live.proofs.Cases.{by-option, close-by, compact-by, flush-by, is-none, refresh-by, some-of}
 use Rattle.slate_live.proofs.Places.{get-before, get-set_other, get-set_same}
 use Rattle.slate_live.proofs.Prefixes.{prefix-same}
@@ -160,7 +161,7 @@ handle-rises stored catalogue settings n moment second (FindNumber seconds find)
 handle-rises stored catalogue settings n moment second Nothing made h before writes reply h' after writes' low a = rises-same h h' a.1
 
 pub follower-same : (f f' : Follower) → f' ≡ f → FollowerRises f f'
-follower-same f f' same = subst (FollowerRises f) (sym same) (record { mode = refl; skips = refl; number = omega arith; result = stays f.result })
+follower-same f f' same = subst (FollowerRises f) (sym same) (record { mode = refl; skips = refl; lag = refl; number = omega arith; result = stays f.result })
 
 -- what a poll leaves: the follower as it was, or one that sees what it is owed
 polled-rises : (ext : Option Extractor) (stored : Line) (catalogue : Catalogue) (f f' : Follower) (before after : Known Span) (r : Result PollAnswer SlateError) → before.objects ≡ Some catalogue → IsValidFollower stored catalogue f → f.result ≡ None → (pinned : Bool) → is_pinned f.mode ≡ pinned → Polls (by_catalogue stored catalogue) ext f before r f' after → FollowerRises f f'
@@ -169,10 +170,12 @@ polled-rises ext stored catalogue f f' before after (Err e) at mine live false f
 polled-rises ext stored catalogue f f' before after (Ok answer) at mine live false free p =
     let b = p.rebuilds live free in
     let all = b.sees catalogue stored at refl tt in
+    let tabled : f.skips ≡ true → number f ≤ f'.view.manifest.last_l0_seq = λ few. mine.1 few free f'.view (latest-view f.mode false catalogue f'.view free (b.can catalogue at)) in
     record {
       mode = b.answer.0;
       skips = b.answer.1;
-      number = subst (λ (g : Follower). number f ≤ number g) (sym all.2) (owed-above stored catalogue f f'.view all.0 mine free (b.can catalogue at) all.1);
+      lag = b.answer.2;
+      number = polled-above stored catalogue catalogue f f' answer mine.0 free tabled all;
       result = is-none (λ q. f'.result ≡ Some q) f.result live;
     }
 
@@ -186,8 +189,8 @@ poll-rises ext stored catalogue f f' before after r at mine p =
     (λ q is. let c = some-of (λ q. (r ≡ Err (closed_error q)) × (after ≡ before)) f.result q is p.closed in follower-same f f' (poll-same r _ (λ e. f' ≡ f) c.0 p.failed))
 
 closed-follower-rises : (f : Follower) (r : CloseResult) → f.result ≡ r → FollowerRises f (closed_follower f)
-closed-follower-rises f None is = record { mode = refl; skips = refl; number = omega arith; result = is-none (λ q. (closed_follower f).result ≡ Some q) f.result is }
-closed-follower-rises f (Some q) is = record { mode = refl; skips = refl; number = omega arith; result = subst (λ x. StaysClosed x (Some (unwrap_or x (Ok tt)))) (sym is) refl }
+closed-follower-rises f None is = record { mode = refl; skips = refl; lag = refl; number = omega arith; result = is-none (λ q. (closed_follower f).result ≡ Some q) f.result is }
+closed-follower-rises f (Some q) is = record { mode = refl; skips = refl; lag = refl; number = omega arith; result = subst (λ x. StaysClosed x (Some (unwrap_or x (Ok tt)))) (sym is) refl }
 
 pub managed-mode : (mode : DbReaderMode) → is_managed mode ≡ true → mode ≡ modes.ManagedCheckpoint
 managed-mode (modes.Checkpoint id) managed = absurd (cc)
@@ -202,7 +205,7 @@ managed-free modes.ManagedCheckpoint managed = refl
 module _ (ext : Option Extractor) (stored : Line) (catalogue : Catalogue) (made : ℕ) (moment : ℤ) (f f' : Follower) (before after : Known Span) (at : before.objects ≡ Some catalogue) (mine : IsValidFollower stored catalogue f) where
   -- what a poll leaves of one that keeps a checkpoint
   leased-rises : (lease : Lease) (r : Result PollAnswer SlateError) → is_managed f.mode ≡ true → f.result ≡ None → KeepsLease (by_catalogue stored catalogue) ext made lease moment f before r f' after → FollowerRises f f'
-  leased-rises lease (Err e) managed live p = subst (FollowerRises f) (sym p.failed) (record { mode = refl; skips = refl; number = omega arith; result = is-none (λ q. poll_result e ≡ Some q) f.result live })
+  leased-rises lease (Err e) managed live p = subst (FollowerRises f) (sym p.failed) (record { mode = refl; skips = refl; lag = refl; number = omega arith; result = is-none (λ q. poll_result e ≡ Some q) f.result live })
   leased-rises lease (Ok answer) managed live p =
       let t = (p.keeps).some catalogue at in
       let keeps = t.2 in
@@ -214,7 +217,8 @@ module _ (ext : Option Extractor) (stored : Line) (catalogue : Catalogue) (made 
       record {
         mode = (p.answers).0 ∙ sym (managed-mode f.mode managed);
         skips = (p.answers).1;
-        number = subst (λ (g : Follower). number f ≤ number g) (sym all.2) (owed-not_below stored catalogue t.0 f modes.ManagedCheckpoint latest all.0 mine.0 refl tabled all.1);
+        lag = (p.answers).2;
+        number = polled-above stored catalogue t.0 f (follower_under latest f') answer mine.0 (managed-free f.mode managed) tabled all;
         result = is-none (λ q. f'.result ≡ Some q) f.result live;
       }
 
@@ -224,7 +228,7 @@ module _ (ext : Option Extractor) (stored : Line) (catalogue : Catalogue) (made 
   twice-rises lease (Ok answer) managed live p = subst (FollowerRises f) (sym (p.answers).1) (leased-rises ext stored catalogue p.first moment f p.middle before p.between at mine lease (Ok p.answer) managed live p.round)
   twice-rises lease (Err e) managed live p =
       let m = leased-rises ext stored catalogue p.first moment f p.middle before p.between at mine lease (Ok p.answer) managed live p.round in
-      subst (FollowerRises f) (sym p.failed) (record { mode = m.mode; skips = m.skips; number = m.number; result = is-none (λ q. poll_result e ≡ Some q) f.result live })
+      subst (FollowerRises f) (sym p.failed) (record { mode = m.mode; skips = m.skips; lag = m.lag; number = m.number; result = is-none (λ q. poll_result e ≡ Some q) f.result live })
 
   managed-rises : (r : Result PollAnswer SlateError) → is_managed f.mode ≡ true → PollsManaged (by_catalogue stored catalogue) ext made moment f before r f' after → FollowerRises f f'
   managed-rises r managed p =
@@ -319,9 +323,9 @@ module _ (settings : Settings) (w : World) (valid : IsValid w) (command : Comman
   does-rises : (target : Target) → DoesBy k settings command target made (state_of w) reply s' → Rise w.objects s'.objects
   does-rises (NewHandle keeps_log) d = rise-push w.objects s'.objects _ d.objects
   does-rises (NewSnapshot n) d = opened-rises n (slice_get w.objects n) d
-  does-rises (NewFollower modes.FollowLatest managed skips) d = rise-push w.objects s'.objects _ (d.0).objects
-  does-rises (NewFollower (modes.Checkpoint id) managed skips) d = rise-push w.objects s'.objects _ (d.0).objects
-  does-rises (NewFollower modes.ManagedCheckpoint managed skips) d = rise-push w.objects s'.objects _ d.objects
+  does-rises (NewFollower modes.FollowLatest managed skips lag) d = rise-push w.objects s'.objects _ (d.0).objects
+  does-rises (NewFollower (modes.Checkpoint id) managed skips lag) d = rise-push w.objects s'.objects _ (d.0).objects
+  does-rises (NewFollower modes.ManagedCheckpoint managed skips lag) d = rise-push w.objects s'.objects _ d.objects
   does-rises (NewCheckpoint lifetime) d = rise-same w.objects s'.objects d.objects
   does-rises WholeStore d = rise-same w.objects s'.objects d.objects
   does-rises (OfWrite n) d = rise-same w.objects s'.objects (ap (λ (s : State Span). s.objects) d.2)

@@ -10,13 +10,13 @@ use Rattle.slate_errors.specs.declared.errors.SlateError.{SlateError}
 use Rattle.slate_errors.specs.declared.errors.SlateError.TheVariants as errors
 use Rattle.slate_errors.specs.Errors.{closed_error}
 use Rattle.slate_model.specs.declared.answers.PollAnswer.{PollAnswer}
-use Rattle.slate_model.specs.Follow.{unseen, Polls, Rebuilds, built}
+use Rattle.slate_model.specs.Follow.{unseen, Polls, Rebuilds, SeesOwed, SeesPolled, built}
 use Rattle.slate_model.specs.Follower.{Follower, is_managed, is_pinned, number}
 use Rattle.slate_store.specs.declared.reader_modes.DbReaderMode.{DbReaderMode}
 use Rattle.slate_store.specs.declared.reader_modes.DbReaderMode.TheVariants as modes
 use Rattle.slate_model.specs.declared.leases.Lease.{Lease}
 use Rattle.slate_model.specs.Lease.{lease_refusal}
-use Rattle.slate_model.specs.Managed.{KeepsLease, OpensManaged, PollsManaged, PollsTwice, TakesLease}
+use Rattle.slate_model.specs.Managed.{KeepsLease, OpensManaged, PollsManaged, PollsTwice, TakesLease, follower_under}
 use Rattle.slate_model.proofs.Reduced.{modelled}
 use Rattle.slate_model.specs.Catalogue.{Span}
 use Rattle.slate_model.specs.Known.{Known, Untouched}
@@ -32,12 +32,12 @@ use Rattle.slate_script.specs.declared.commands.Command.{Command}
 use Rattle.slate_script.specs.declared.replies.Reply.{Reply}
 use Rattle.slate_script.specs.declared.replies.Reply.TheVariants as replies
 use Rattle.slate_live.specs.Calls.{Poll, at_snapshot, call_of, target_of}
-use Rattle.slate_live.specs.Commands.{ActsOn, DoesBy, OpensFollowerIn, ReadsSnapshot, added, interval_of, lifetime_of}
+use Rattle.slate_live.specs.Commands.{ActsOn, DoesBy, OpensFollowerIn, ReadsSnapshot, added, interval_of, lag_of, lifetime_of}
 use Rattle.slate_live.specs.Followers.{PollsAs}
 use Rattle.slate_live.proofs.Rising.{managed-mode}
 use Rattle.slate_live.specs.Confirmed.{Sees, StandsIn}
 use Rattle.slate_live.specs.Represents.{IsFollowerAt, IsLeased, IsValid, follows_all}
-use Rattle.slate_live.proofs.Following.{owed-all}
+use Rattle.slate_live.proofs.Following.{owed-all, polled-answer, polled-near}
 use Rattle.slate_live.specs.Replies.{followed_reply, polled_reply, refusal, reply_to}
 use Rattle.slate_live.specs.Settings.{Settings, option_tasks}
 use Rattle.slate_live.specs.World.{NextWhole, World, state_of}
@@ -57,19 +57,19 @@ sees-by batch action w is sees = subst (λ r. Sees batch action r w) (sym is) se
 
 sees-no-memory : (batch : Batch) (action : Action) (w : World) → Sees batch action replies.NoMemory w
 sees-no-memory batch (actions.Open wal) w = tt
-sees-no-memory batch (actions.Follow mode managed skip) w = tt
+sees-no-memory batch (actions.Follow mode managed skip lag) w = tt
 sees-no-memory batch (actions.Poll n) w = tt
 sees-no-memory batch action w = tt
 
 sees-error : (batch : Batch) (action : Action) (e : SlateError) (w : World) → Sees batch action (replies.Refused e) w
 sees-error batch (actions.Open wal) e w = tt
-sees-error batch (actions.Follow mode managed skip) e w = tt
+sees-error batch (actions.Follow mode managed skip lag) e w = tt
 sees-error batch (actions.Poll n) e w = tt
 sees-error batch action e w = tt
 
 sees-held-up : (batch : Batch) (action : Action) (unflushed limit : ℕ) (w : World) → Sees batch action (replies.Backpressure unflushed limit) w
 sees-held-up batch (actions.Open wal) unflushed limit w = tt
-sees-held-up batch (actions.Follow mode managed skip) unflushed limit w = tt
+sees-held-up batch (actions.Follow mode managed skip lag) unflushed limit w = tt
 sees-held-up batch (actions.Poll n) unflushed limit w = tt
 sees-held-up batch action unflushed limit w = tt
 
@@ -89,34 +89,34 @@ open-sees extractor batch w w' wal made limit tasks (Ok h) opens is stands =
 open-sees extractor batch w w' wal made limit tasks (Err e) opens is stands = sees-refusal batch (actions.Open wal) e w'
 
 -- a follower that is opened, or polled while it doesn't stay at a checkpoint, answers the end of what it is owed; where it
--- follows all that is stored, that is a number at or above its own
-follow-sees : (ext : Option Extractor) (batch : Batch) (w w' : World) (n : ℕ) (mode : DbReaderMode) (managed : Option (ℕ × ℕ)) (skips : Bool) (r : Result (Follower × PollAnswer) SlateError) → Rebuilds (by_catalogue w.stored w.catalogue) ext mode skips true unseen (state_of w).store r (state_of w').store → StandsIn batch w.stored →
-    Sees batch (actions.Follow mode managed skips) (reply_to (λ (b : Follower × PollAnswer). followed_reply n b.1) r) w'
-follow-sees ext batch w w' n mode managed skips (Ok b) built stands =
+-- follows all that is stored, that is a number at or above its own, or, after a poll, above that less the number by which it may lag
+follow-sees : (ext : Option Extractor) (batch : Batch) (w w' : World) (n : ℕ) (mode : DbReaderMode) (managed : Option (ℕ × ℕ)) (skips : Bool) (lag : Option ℕ) (r : Result (Follower × PollAnswer) SlateError) → Rebuilds (by_catalogue w.stored w.catalogue) ext mode skips true (lag_of lag) (SeesOwed (by_catalogue w.stored w.catalogue) mode skips (lag_of lag)) unseen (state_of w).store r (state_of w').store → StandsIn batch w.stored →
+    Sees batch (actions.Follow mode managed skips lag) (reply_to (λ (b : Follower × PollAnswer). followed_reply n b.1) r) w'
+follow-sees ext batch w w' n mode managed skips lag (Ok b) built stands =
     let all = built.sees w.catalogue w.stored refl refl tt in
     let low = stands-end batch w.stored stands in
-    subst (λ a. Sees batch (actions.Follow mode managed skips) (followed_reply n a) w') (sym all.3)
+    subst (λ a. Sees batch (actions.Follow mode managed skips lag) (followed_reply n a) w') (sym all.3)
     (λ whole. let same = owed-all w.catalogue w.catalogue mode skips (b.0).view w.stored all.0 whole all.1 in subst (λ l. batch.number ≤ end l) (sym same) low)
-follow-sees ext batch w w' n mode managed skips (Err e) built stands = sees-refusal batch (actions.Follow mode managed skips) e w'
+follow-sees ext batch w w' n mode managed skips lag (Err e) built stands = sees-refusal batch (actions.Follow mode managed skips lag) e w'
 
 -- so does one that keeps a checkpoint
-taken-sees : (ext : Option Extractor) (batch : Batch) (w w' : World) (n made lifetime : ℕ) (managed : Option (ℕ × ℕ)) (skips : Bool) (moment : ℤ) (r : Result (Follower × PollAnswer) SlateError) → TakesLease (by_catalogue w.stored w.catalogue) ext made lifetime skips moment (state_of w).store r (state_of w').store → StandsIn batch w.stored →
-    Sees batch (actions.Follow modes.ManagedCheckpoint managed skips) (reply_to (λ (b : Follower × PollAnswer). followed_reply n b.1) r) w'
-taken-sees ext batch w w' n made lifetime managed skips moment (Ok b) taken stands =
+taken-sees : (ext : Option Extractor) (batch : Batch) (w w' : World) (n made lifetime : ℕ) (managed : Option (ℕ × ℕ)) (skips : Bool) (lag : Option ℕ) (moment : ℤ) (r : Result (Follower × PollAnswer) SlateError) → TakesLease (by_catalogue w.stored w.catalogue) ext made lifetime skips (lag_of lag) moment (state_of w).store r (state_of w').store → StandsIn batch w.stored →
+    Sees batch (actions.Follow modes.ManagedCheckpoint managed skips lag) (reply_to (λ (b : Follower × PollAnswer). followed_reply n b.1) r) w'
+taken-sees ext batch w w' n made lifetime managed skips lag moment (Ok b) taken stands =
     let all = ((modelled w.catalogue w'.catalogue taken.takes).sees).sees w.stored refl tt in
     let low = stands-end batch w.stored stands in
-    subst (λ a. Sees batch (actions.Follow modes.ManagedCheckpoint managed skips) (followed_reply n a) w') (sym all.3)
+    subst (λ a. Sees batch (actions.Follow modes.ManagedCheckpoint managed skips lag) (followed_reply n a) w') (sym all.3)
     (λ whole. let same = owed-all w.catalogue w'.catalogue modes.ManagedCheckpoint skips (b.0).view w.stored all.0 whole all.1 in subst (λ l. batch.number ≤ end l) (sym same) low)
-taken-sees ext batch w w' n made lifetime managed skips moment (Err e) taken stands = sees-refusal batch (actions.Follow modes.ManagedCheckpoint managed skips) e w'
+taken-sees ext batch w w' n made lifetime managed skips lag moment (Err e) taken stands = sees-refusal batch (actions.Follow modes.ManagedCheckpoint managed skips lag) e w'
 
-take-sees : (ext : Option Extractor) (batch : Batch) (w w' : World) (n made lifetime interval : ℕ) (managed : Option (ℕ × ℕ)) (skips : Bool) (moment : ℤ) (r : Result (Follower × PollAnswer) SlateError) → OpensManaged (by_catalogue w.stored w.catalogue) ext made lifetime interval skips moment (state_of w).store r (state_of w').store → StandsIn batch w.stored →
-    Sees batch (actions.Follow modes.ManagedCheckpoint managed skips) (reply_to (λ (b : Follower × PollAnswer). followed_reply n b.1) r) w'
-take-sees ext batch w w' n made lifetime interval managed skips moment r d stands =
+take-sees : (ext : Option Extractor) (batch : Batch) (w w' : World) (n made lifetime interval : ℕ) (managed : Option (ℕ × ℕ)) (skips : Bool) (lag : Option ℕ) (moment : ℤ) (r : Result (Follower × PollAnswer) SlateError) → OpensManaged (by_catalogue w.stored w.catalogue) ext made lifetime interval skips (lag_of lag) moment (state_of w).store r (state_of w').store → StandsIn batch w.stored →
+    Sees batch (actions.Follow modes.ManagedCheckpoint managed skips lag) (reply_to (λ (b : Follower × PollAnswer). followed_reply n b.1) r) w'
+take-sees ext batch w w' n made lifetime interval managed skips lag moment r d stands =
     by-option (lease_refusal lifetime interval)
-    (λ none. taken-sees ext batch w w' n made lifetime managed skips moment r (d.takes none) stands)
+    (λ none. taken-sees ext batch w w' n made lifetime managed skips lag moment r (d.takes none) stands)
     (λ error is.
     let c = some-of (λ error. (r ≡ Err error) × Untouched made (state_of w).store (state_of w').store) (lease_refusal lifetime interval) error is d.refused in
-    subst (λ x. Sees batch (actions.Follow modes.ManagedCheckpoint managed skips) (reply_to (λ (b : Follower × PollAnswer). followed_reply n b.1) x) w') (sym c.0) (sees-refusal batch (actions.Follow modes.ManagedCheckpoint managed skips) error w'))
+    subst (λ x. Sees batch (actions.Follow modes.ManagedCheckpoint managed skips lag) (reply_to (λ (b : Follower × PollAnswer). followed_reply n b.1) x) w') (sym c.0) (sees-refusal batch (actions.Follow modes.ManagedCheckpoint managed skips lag) error w'))
 
 -- the follower that a poll left stands where it was
 polled-at : (w w' : World) (n : ℕ) (f f' : Follower) → IsFollowerAt w.objects n f → w'.objects ≡ set w.objects n (AFollower f') → (g : Follower) → IsFollowerAt w'.objects n g → f' ≡ g
@@ -125,19 +125,22 @@ polled-at w w' n f f' at is g there =
     let now : slice_get (set w.objects n (AFollower f')) n ≡ Some (AFollower g) = subst (λ os. slice_get os n ≡ Some (AFollower g)) is there in
     cc
 
+-- it follows all that is stored where it did
+as-before : (f f' g : Follower) → f' ≡ g → f'.mode ≡ f.mode → f'.skips ≡ f.skips → follows_all g.mode g.skips ≡ true → follows_all f.mode f.skips ≡ true
+as-before f f' g same mode skips whole = sym (ap (λ m. follows_all m f'.skips) mode ∙ ap (follows_all f.mode) skips) ∙ (ap (λ (x : Follower). follows_all x.mode x.skips) same ∙ whole)
+
 module _ (ext : Option Extractor) (n : ℕ) (batch : Batch) (w w' : World) (f f' : Follower) (at : IsFollowerAt w.objects n f) (is : w'.objects ≡ set w.objects n (AFollower f')) (stands : StandsIn batch w.stored) where
-  polled-sees : (r : Result PollAnswer SlateError) → is_pinned f.mode ≡ false → Rebuilds (by_catalogue w.stored w.catalogue) ext f.mode f.skips false (λ objects line. Unit {0}) (state_of w).store (built f' r) (state_of w').store → Sees batch (actions.Poll n) (reply_to polled_reply r) w'
+  polled-sees : (r : Result PollAnswer SlateError) → is_pinned f.mode ≡ false → Rebuilds (by_catalogue w.stored w.catalogue) ext f.mode f.skips false f.lag (SeesPolled (by_catalogue w.stored w.catalogue) f) (λ objects line. Unit {0}) (state_of w).store (built f' r) (state_of w').store → Sees batch (actions.Poll n) (reply_to polled_reply r) w'
   polled-sees (Ok answer) free b =
       let all = b.sees w.catalogue w.stored refl refl tt in
       let low = stands-end batch w.stored stands in
-      subst (λ a. Sees batch (actions.Poll n) (polled_reply a) w') (sym all.3)
+      subst (λ a. Sees batch (actions.Poll n) (polled_reply a) w') (sym (polled-answer w.stored w.catalogue w.catalogue f f' answer all))
       (λ g there whole.
       let same = polled-at w w' n f f' at is g there in
-      let mode : g.mode ≡ f.mode = ap (λ (x : Follower). x.mode) (sym same) ∙ b.answer.0 in
-      let skips : g.skips ≡ f.skips = ap (λ (x : Follower). x.skips) (sym same) ∙ b.answer.1 in
-      let follows : follows_all f.mode f.skips ≡ true = sym (ap (λ m. follows_all m g.skips) mode ∙ ap (follows_all f.mode) skips) ∙ whole in
-      let line = owed-all w.catalogue w.catalogue f.mode f.skips f'.view w.stored all.0 follows all.1 in
-      subst (λ l. batch.number ≤ end l) (sym line) low)
+      let follows = as-before f f' g same b.answer.0 b.answer.1 whole in
+      let near = polled-near w.stored w.catalogue w.catalogue f f' answer follows all in
+      let lag : g.lag ≡ f.lag = ap (λ (x : Follower). x.lag) (sym same) ∙ b.answer.2 in
+      omega (arith, low, near, lag))
   polled-sees (Err e) free b = sees-refusal batch (actions.Poll n) e w'
 
   -- one that stays at a checkpoint doesn't follow all that is stored
@@ -170,14 +173,14 @@ module _ (ext : Option Extractor) (n : ℕ) (batch : Batch) (w w' : World) (f f'
       let keeps = t.2 in
       let all = (keeps.sees).sees w.stored refl tt in
       let low = stands-end batch w.stored stands in
-      subst (λ a. Sees batch (actions.Poll n) (polled_reply a) w') (sym all.3)
+      let seen = follower_under (unwrap_or keeps.next keeps.latest) f' in
+      subst (λ a. Sees batch (actions.Poll n) (polled_reply a) w') (sym (polled-answer w.stored w.catalogue t.0 f seen answer all))
       (λ g there whole.
       let same = polled-at w w' n f f' at is g there in
-      let mode : g.mode ≡ modes.ManagedCheckpoint = ap (λ (x : Follower). x.mode) (sym same) ∙ p.answers.0 in
-      let skips : g.skips ≡ f.skips = ap (λ (x : Follower). x.skips) (sym same) ∙ p.answers.1 in
-      let follows : follows_all modes.ManagedCheckpoint f.skips ≡ true = sym (ap (λ m. follows_all m g.skips) mode ∙ ap (follows_all modes.ManagedCheckpoint) skips) ∙ whole in
-      let line = owed-all w.catalogue t.0 modes.ManagedCheckpoint f.skips (unwrap_or keeps.next keeps.latest) w.stored all.0 follows all.1 in
-      subst (λ l. batch.number ≤ end l) (sym line) low)
+      let follows = as-before f f' g same (p.answers.0 ∙ sym managed) p.answers.1 whole in
+      let near = polled-near w.stored w.catalogue t.0 f seen answer follows all in
+      let lag : g.lag ≡ f.lag = ap (λ (x : Follower). x.lag) (sym same) ∙ p.answers.2 in
+      omega (arith, low, near, lag))
   keep-sees made lease moment (Err e) after managed p = sees-refusal batch (actions.Poll n) e w'
 
   -- where a renewal follows the round
@@ -222,19 +225,19 @@ sees-on settings batch w w' valid command made n reply (Some (AFollower f)) stan
     let a = follower-did (by_catalogue w.stored w.catalogue) settings n command Poll made (state_of w) reply (state_of w') (Some (AFollower f)) f refl d in
     sees-by batch (actions.Poll n) w' (a.acts).0.replied (polls-see settings.extractor n batch w w' f a.new at a.objects stands made command.moment (a.acts).0.result (is_managed f.mode) refl (valid.followers n f at).2 (a.acts).0.does)
 
-follows-see : (settings : Settings) (batch : Batch) (w w' : World) (command : Command) (made : ℕ) (mode : DbReaderMode) (managed : Option (ℕ × ℕ)) (skips : Bool) (reply : Reply) → StandsIn batch w.stored → OpensFollowerIn (by_catalogue w.stored w.catalogue) settings mode managed skips command.moment made (state_of w) reply (state_of w') → Sees batch (actions.Follow mode managed skips) reply w'
-follows-see settings batch w w' command made modes.FollowLatest managed skips reply stands d =
-    sees-by batch (actions.Follow modes.FollowLatest managed skips) w' (d.0).replied (follow-sees settings.extractor batch w w' (length w.objects) modes.FollowLatest managed skips (d.0).result (d.0).does stands)
-follows-see settings batch w w' command made (modes.Checkpoint id) managed skips reply stands d =
-    sees-by batch (actions.Follow (modes.Checkpoint id) managed skips) w' (d.0).replied (follow-sees settings.extractor batch w w' (length w.objects) (modes.Checkpoint id) managed skips (d.0).result (d.0).does stands)
-follows-see settings batch w w' command made modes.ManagedCheckpoint managed skips reply stands d =
-    sees-by batch (actions.Follow modes.ManagedCheckpoint managed skips) w' d.replied (take-sees settings.extractor batch w w' (length w.objects) made (lifetime_of managed) (interval_of managed) managed skips command.moment d.result d.does stands)
+follows-see : (settings : Settings) (batch : Batch) (w w' : World) (command : Command) (made : ℕ) (mode : DbReaderMode) (managed : Option (ℕ × ℕ)) (skips : Bool) (lag : Option ℕ) (reply : Reply) → StandsIn batch w.stored → OpensFollowerIn (by_catalogue w.stored w.catalogue) settings mode managed skips (lag_of lag) command.moment made (state_of w) reply (state_of w') → Sees batch (actions.Follow mode managed skips lag) reply w'
+follows-see settings batch w w' command made modes.FollowLatest managed skips lag reply stands d =
+    sees-by batch (actions.Follow modes.FollowLatest managed skips lag) w' (d.0).replied (follow-sees settings.extractor batch w w' (length w.objects) modes.FollowLatest managed skips lag (d.0).result (d.0).does stands)
+follows-see settings batch w w' command made (modes.Checkpoint id) managed skips lag reply stands d =
+    sees-by batch (actions.Follow (modes.Checkpoint id) managed skips lag) w' (d.0).replied (follow-sees settings.extractor batch w w' (length w.objects) (modes.Checkpoint id) managed skips lag (d.0).result (d.0).does stands)
+follows-see settings batch w w' command made modes.ManagedCheckpoint managed skips lag reply stands d =
+    sees-by batch (actions.Follow modes.ManagedCheckpoint managed skips lag) w' d.replied (take-sees settings.extractor batch w w' (length w.objects) made (lifetime_of managed) (interval_of managed) managed skips lag command.moment d.result d.does stands)
 
 sees-action : (settings : Settings) (batch : Batch) (w w' : World) (valid : IsValid w) (command : Command) (made : ℕ) (action : Action) (reply : Reply) → command.action ≡ action → StandsIn batch w.stored → DoesBy (by_catalogue w.stored w.catalogue) settings command (target_of action) made (state_of w) reply (state_of w') → Sees batch action reply w'
 sees-action settings batch w w' valid command made (actions.Open wal) reply is stands d =
     sees-by batch (actions.Open wal) w' d.replied (open-sees settings.extractor batch w w' wal made settings.options.max_unflushed_bytes (option_tasks settings.options) d.result d.does d.objects stands)
-sees-action settings batch w w' valid command made (actions.Follow mode managed skip) reply is stands d =
-    follows-see settings batch w w' command made mode managed skip reply stands d
+sees-action settings batch w w' valid command made (actions.Follow mode managed skip lag) reply is stands d =
+    follows-see settings batch w w' command made mode managed skip lag reply stands d
 sees-action settings batch w w' valid command made (actions.Poll n) reply is stands d =
     sees-on settings batch w w' valid command made n reply (slice_get w.objects n) stands refl
     (subst (λ a. ActsOn (by_catalogue w.stored w.catalogue) settings n command (call_of a) made (slice_get w.objects n) (state_of w) reply (state_of w')) is d)

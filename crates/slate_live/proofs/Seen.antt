@@ -1,6 +1,6 @@
 -- What is stored when a poll is begun by single calls is seen where that has read all.
-use Rattle.std.proofs.Common.{◌≡◌, ◌⊎◌, ◌≤◌, ◌∙◌, ◌&&◌, ◌||◌, not, ◌∷◌, ◌++◌, [], inl, inr, ℕ, Bool, true, false, if◌then◌else◌, List, option_map, Option, Some, None, refl, sym, ap, subst, arith}
-use Rattle.std.proofs.lemmas.Bool.{cases_eq}
+use Rattle.std.proofs.Common.{◌≡◌, ◌⊎◌, ◌≤◌, ◌+◌, max, nat_lt, ◌∙◌, ◌&&◌, ◌||◌, not, ◌∷◌, ◌++◌, [], inl, inr, ℕ, Bool, true, false, if◌then◌else◌, List, option_map, Option, Some, None, refl, sym, ap, subst, arith}
+use Rattle.std.proofs.lemmas.Bool.{cases_eq, ltb-false}
 use Rattle.std.specs.List.{slice_get}
 use Rattle.std.specs.Option.{is_none}
 use Rattle.slate_types.specs.Line.{end}
@@ -15,7 +15,7 @@ use Rattle.slate_script.specs.declared.commands.Action.TheVariants as actions
 use Rattle.slate_script.specs.declared.replies.Reply.{Reply}
 use Rattle.slate_script.specs.declared.replies.Reply.TheVariants as replies
 use Rattle.slate_live.specs.Calls.{Begins, Kind, Steps, Whole, kind_of}
-use Rattle.slate_live.specs.Next.{NextBegun, NextBy, NextStep, shown, stored_in, tabled_number}
+use Rattle.slate_live.specs.Next.{NextBegun, NextBy, NextStep, owed_past, shown, stored_in, tabled_number}
 use Rattle.slate_live.specs.Represents.{IsFollowerAt, follows_all}
 use Rattle.slate_live.specs.Rising.{Rise, Rises}
 use Rattle.slate_live.specs.Settings.{Settings}
@@ -41,21 +41,29 @@ reading-of mode true all = absurd (never (is_pinned mode) all)
 reading-of mode false all = refl
 
 -- a reader stays one, in its mode
-reader-then : (w w' : World) (n : ℕ) (f : Follower) → Rise w.objects w'.objects → IsFollowerAt w.objects n f → (g : Follower) × IsFollowerAt w'.objects n g × (g.mode ≡ f.mode) × (g.skips ≡ f.skips)
+reader-then : (w w' : World) (n : ℕ) (f : Follower) → Rise w.objects w'.objects → IsFollowerAt w.objects n f → (g : Follower) × IsFollowerAt w'.objects n g × (g.mode ≡ f.mode) × (g.skips ≡ f.skips) × (g.lag ≡ f.lag)
 reader-then w w' n f rises at = let r = rises n (AFollower f) at in by r.0 r.1 r.2
   where
-    by : (new : Object) → slice_get w'.objects n ≡ Some new → Rises (AFollower f) new → (g : Follower) × IsFollowerAt w'.objects n g × (g.mode ≡ f.mode) × (g.skips ≡ f.skips)
-    by (AFollower g) there rise = (g, there, rise.mode, rise.skips)
+    by : (new : Object) → slice_get w'.objects n ≡ Some new → Rises (AFollower f) new → (g : Follower) × IsFollowerAt w'.objects n g × (g.mode ≡ f.mode) × (g.skips ≡ f.skips) × (g.lag ≡ f.lag)
+    by (AFollower g) there rise = (g, there, rise.mode, rise.skips, rise.lag)
     by (AHandle h) there rise = absurd rise
     by (ASnapshot x) there rise = absurd rise
 
--- what one of all that is stored is owed at a step is stored at the first, and else what it was owed then
-first-owed : (pinned none skips : Bool) (least own tabled stored owed : ℕ) → pinned ≡ false → skips ≡ false → least ≤ stored → (none ≡ false → least ≤ owed) →
-    least ≤ (if pinned || none then (if pinned then own else (if skips then tabled else stored)) else owed)
-first-owed true none skips least own tabled stored owed free reads now earlier = absurd (cc)
-first-owed false none true least own tabled stored owed free reads now earlier = absurd (cc)
-first-owed false true false least own tabled stored owed free reads now earlier = now
-first-owed false false false least own tabled stored owed free reads now earlier = earlier refl
+-- what is owed of it is behind it by the lag at most
+past-within : (lag reached stored : ℕ) → stored ≤ owed_past lag reached stored + lag
+past-within lag reached stored = by (nat_lt (reached + lag) stored) refl
+  where
+    by : (b : Bool) → nat_lt (reached + lag) stored ≡ b → stored ≤ (if b then stored else reached) + lag
+    by true is = omega arith
+    by false is = let no = ltb-false (reached + lag) stored is in omega (arith, no)
+
+-- what one of all that is stored is owed at a step is as much as is stored at the first, less the lag, and else what it was owed then
+first-owed : (pinned none skips : Bool) (lag least own tabled stored owed : ℕ) → pinned ≡ false → skips ≡ false → least ≤ stored → (none ≡ false → least ≤ owed + lag) →
+    least ≤ (if pinned || none then (if pinned then own else (if skips then tabled else owed_past lag (max own tabled) stored)) else owed) + lag
+first-owed true none skips lag least own tabled stored owed free reads now earlier = absurd (cc)
+first-owed false none true lag least own tabled stored owed free reads now earlier = absurd (cc)
+first-owed false true false lag least own tabled stored owed free reads now earlier = let within = past-within lag (max own tabled) stored in omega (arith, now, within)
+first-owed false false false lag least own tabled stored owed free reads now earlier = earlier refl
 
 -- a poll of the reader was begun before its step, or the step answers that there is none
 was-begun : (settings : Settings) (n : ℕ) (w w' : World) (reply : Reply) (f : Follower) → NextStep settings n w reply w' → IsFollowerAt w.objects n f →
@@ -85,13 +93,13 @@ module _ (settings : Settings) (least n : ℕ) where
     reader : Follower
     there : IsFollowerAt w.objects n reader
     stored : least ≤ end w.stored
-    owed : follows_all reader.mode reader.skips ≡ true → (b : Begun) → IsBegunAt w.polls n b → is_none b.history.first ≡ false → least ≤ w.owed n
+    owed : follows_all reader.mode reader.skips ≡ true → (b : Begun) → IsBegunAt w.polls n b → is_none b.history.first ≡ false → least ≤ w.owed n + reader.lag
 
-  owed-then : (w w' : World) (reply : Reply) → NextStep settings n w reply w' → (o : Owes w) → follows_all (o.reader).mode (o.reader).skips ≡ true → (b : Begun) → IsBegunAt w.polls n b → least ≤ w'.owed n
+  owed-then : (w w' : World) (reply : Reply) → NextStep settings n w reply w' → (o : Owes w) → follows_all (o.reader).mode (o.reader).skips ≡ true → (b : Begun) → IsBegunAt w.polls n b → least ≤ w'.owed n + (o.reader).lag
   owed-then w w' reply next o all b at =
       let f = o.reader in
-      subst (λ x. least ≤ x) (sym (next.owed f b o.there at))
-      (first-owed (is_pinned f.mode) (is_none b.history.first) f.skips least (followers.number f) (tabled_number (latest_manifest w.catalogue)) (end w.stored) (w.owed n) (free-of f.mode f.skips all) (reading-of f.mode f.skips all) o.stored (o.owed all b at))
+      subst (λ x. least ≤ x + f.lag) (sym (next.owed f b o.there at))
+      (first-owed (is_pinned f.mode) (is_none b.history.first) f.skips f.lag least (followers.number f) (tabled_number (latest_manifest w.catalogue)) (end w.stored) (w.owed n) (free-of f.mode f.skips all) (reading-of f.mode f.skips all) o.stored (o.owed all b at))
 
   -- whatever command comes next
   owes-then : (w : World) (step : Step) → Link settings w step.command step.reply step.world → Owes w → Owes step.world
@@ -101,22 +109,22 @@ module _ (settings : Settings) (least n : ℕ) where
         reader = g.0;
         there = g.1;
         stored = (let more = prefix-end w.stored (step.world).stored link.grows in let now = o.stored in omega (arith, more, now));
-        owed = λ all b at second. by (kind_of step.command.action) refl (ap (λ m. follows_all m (o.reader).skips) (sym g.2) ∙ (ap (follows_all (g.0).mode) (sym g.3) ∙ all)) b at second;
+        owed = λ all b at second. subst (λ lag. least ≤ (step.world).owed n + lag) (sym g.4) (by (kind_of step.command.action) refl (ap (λ m. follows_all m (o.reader).skips) (sym g.2) ∙ (ap (follows_all (g.0).mode) (sym g.3) ∙ all)) b at second);
       }
     where
-      own : NextStep settings n w step.reply (step.world) → follows_all (o.reader).mode (o.reader).skips ≡ true → (b : Begun) → IsBegunAt (step.world).polls n b → least ≤ (step.world).owed n
+      own : NextStep settings n w step.reply (step.world) → follows_all (o.reader).mode (o.reader).skips ≡ true → (b : Begun) → IsBegunAt (step.world).polls n b → least ≤ (step.world).owed n + (o.reader).lag
       own next all b at = elim (was-begun settings n w (step.world) step.reply (o.reader) next o.there) [
         | inl was ↦ owed-then w (step.world) step.reply next o all was.0 was.1
         | inr none ↦ absurd (none.1 b at)
       ]
 
-      by : (kind : Kind) → kind_of step.command.action ≡ kind → follows_all (o.reader).mode (o.reader).skips ≡ true → (b : Begun) → IsBegunAt (step.world).polls n b → is_none b.history.first ≡ false → least ≤ (step.world).owed n
+      by : (kind : Kind) → kind_of step.command.action ≡ kind → follows_all (o.reader).mode (o.reader).skips ≡ true → (b : Begun) → IsBegunAt (step.world).polls n b → is_none b.history.first ≡ false → least ≤ (step.world).owed n + (o.reader).lag
       by Whole kind all b at second =
           let next = next-whole settings w step.command step.reply (step.world) kind link.next in
-          subst (λ (owed : ℕ → ℕ). least ≤ owed n) (sym next.owed) (o.owed all b ((next.polls n b).0 at).0 second)
+          subst (λ (owed : ℕ → ℕ). least ≤ owed n + (o.reader).lag) (sym next.owed) (o.owed all b ((next.polls n b).0 at).0 second)
       by (Begins m) kind all b at second =
           let next : NextBegun settings m w step.command step.reply (step.world) = subst (λ k. NextBy k settings w step.command step.reply (step.world)) kind link.next in
-          subst (λ (owed : ℕ → ℕ). least ≤ owed n) (sym (ap (λ (x : World). x.owed) next.same))
+          subst (λ (owed : ℕ → ℕ). least ≤ owed n + (o.reader).lag) (sym (ap (λ (x : World). x.owed) next.same))
           (elim (begun-from settings m w (step.world) step.command step.reply next n b at) [
             | inl old ↦ o.owed all b old second
             | inr (here, g, at_g, open_, replied, is) ↦ (let no = ap (λ (x : Begun). is_none x.history.first) is ∙ second in absurd (cc))
@@ -125,7 +133,7 @@ module _ (settings : Settings) (least n : ℕ) where
           let next : NextStep settings m w step.reply (step.world) = subst (λ k. NextBy k settings w step.command step.reply (step.world)) kind link.next in
           elim (cases_eq n m) [
             | inl same ↦ own (subst (λ i. NextStep settings i w step.reply (step.world)) (sym same) next) all b at
-            | inr other ↦ subst (λ x. least ≤ x) (sym (next.owed_others n other)) (o.owed all b (sym ((link.leaves m kind).polls n other) ∙ at) second)
+            | inr other ↦ subst (λ x. least ≤ x + (o.reader).lag) (sym (next.owed_others n other)) (o.owed all b (sym ((link.leaves m kind).polls n other) ∙ at) second)
           ]
 
   -- once its poll is begun
@@ -158,7 +166,7 @@ module _ (settings : Settings) (least n : ℕ) where
           }
 
   -- and answered
-  last-sees : (w : World) (step : Step) → Link settings w step.command step.reply step.world → Owes w → step.command.action ≡ actions.Step n → (at : ℕ) → step.reply ≡ replies.Polled true at → (reader : Follower) → IsFollowerAt (step.world).objects n reader → follows_all reader.mode reader.skips ≡ true → least ≤ at
+  last-sees : (w : World) (step : Step) → Link settings w step.command step.reply step.world → Owes w → step.command.action ≡ actions.Step n → (at : ℕ) → step.reply ≡ replies.Polled true at → (reader : Follower) → IsFollowerAt (step.world).objects n reader → follows_all reader.mode reader.skips ≡ true → least ≤ at + reader.lag
   last-sees w step link o is at replied reader there all =
       let g = reader-then w step.world n (o.reader) link.rises o.there in
       let same : g.0 ≡ reader = (let e = sym g.1 ∙ there in cc) in
@@ -167,7 +175,8 @@ module _ (settings : Settings) (least n : ℕ) where
         | inl was ↦
             let enough = ((link.causes n (o.reader) was.0 kind o.there was.1).whole at replied).0 in
             let owed = owed-then w step.world step.reply next o follows was.0 was.1 in
-            omega (arith, enough, owed)
+            let lag : reader.lag ≡ (o.reader).lag = ap (λ (x : Follower). x.lag) (sym same) ∙ g.4 in
+            omega (arith, enough, owed, lag)
         | inr none ↦ (let no = sym replied ∙ none.0 in absurd (cc))
       ]
     where
@@ -177,7 +186,7 @@ module _ (settings : Settings) (least n : ℕ) where
       next : NextStep settings n w step.reply step.world
       next = subst (λ k. NextBy k settings w step.command step.reply step.world) kind link.next
 
-  sees-then : (w : World) (between rest : List Step) (step : Step) → Chain settings w (between ++ step ∷ rest) → Owes w → step.command.action ≡ actions.Step n → (at : ℕ) → step.reply ≡ replies.Polled true at → (reader : Follower) → IsFollowerAt (step.world).objects n reader → follows_all reader.mode reader.skips ≡ true → least ≤ at
+  sees-then : (w : World) (between rest : List Step) (step : Step) → Chain settings w (between ++ step ∷ rest) → Owes w → step.command.action ≡ actions.Step n → (at : ℕ) → step.reply ≡ replies.Polled true at → (reader : Follower) → IsFollowerAt (step.world).objects n reader → follows_all reader.mode reader.skips ≡ true → least ≤ at + reader.lag
   sees-then w [] rest step chain o is at replied reader there all = last-sees w step chain.0 o is at replied reader there all
   sees-then w (s ∷ between) rest step chain o is at replied reader there all = sees-then s.world between rest step chain.1 (owes-then w s chain.0 o) is at replied reader there all
 

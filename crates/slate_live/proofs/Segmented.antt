@@ -21,7 +21,7 @@ use Rattle.slate_errors.specs.declared.errors.SlateError.{SlateError}
 use Rattle.slate_errors.specs.declared.errors.SlateError.TheVariants as errors
 use Rattle.slate_model.specs.Catalogue.{Catalogue, Span}
 use Rattle.slate_model.specs.Flush.{grown, grows}
-use Rattle.slate_model.specs.Follow.{IsOwed, LacksSegment, Rebuilds, ReplayRefuses, unseen}
+use Rattle.slate_model.specs.Follow.{IsOwed, LacksSegment, Rebuilds, ReplayRefuses, SeesOwed, unseen}
 use Rattle.slate_model.specs.Follower.{Follower, is_pinned}
 use Rattle.slate_model.specs.Handle.{Handle, accepted, known_segments, unstored, up_to}
 use Rattle.slate_model.specs.Knowledge.{Knowledge}
@@ -48,7 +48,7 @@ use Rattle.slate_script.specs.declared.commands.Command.{Command}
 use Rattle.slate_script.specs.declared.replies.Reply.{Reply}
 use Rattle.slate_live.specs.declared.states.Write.{Write}
 use Rattle.slate_live.specs.Calls.{Call, Write as WriteCall, Merge as MergeCall, Flush, Refresh, Compact, Get, Scan, Seek, Close, Poll, Status, FindTime, FindNumber, Nothing, call_of, Target, NewHandle, NewSnapshot, NewFollower, NewCheckpoint, WholeStore, OfWrite, OfObject, at_snapshot, named, target_of}
-use Rattle.slate_live.specs.Commands.{ActsAt, ActsOn, DoesBy, OpensSnapshot, ReadsSnapshot, added, interval_of, lifetime_of}
+use Rattle.slate_live.specs.Commands.{ActsAt, ActsOn, DoesBy, OpensSnapshot, ReadsSnapshot, added, interval_of, lag_of, lifetime_of}
 use Rattle.slate_live.specs.Handles.{HandleActs, MergesTo}
 use Rattle.slate_live.specs.Represents.{AreInSegments, HaveSegments, IsHandleAt, IsReached, follows_all, replays_all}
 use Rattle.slate_live.specs.Rising.{Rises}
@@ -245,7 +245,7 @@ named-at : (objects : List Object) (target : Target) (h : Handle) → named obje
 named-at objects (OfObject n) h is = (n, is)
 named-at objects (NewHandle keeps) h is = absurd (cc)
 named-at objects (NewSnapshot n) h is = absurd (cc)
-named-at objects (NewFollower mode managed skips) h is = absurd (cc)
+named-at objects (NewFollower mode managed skips lag) h is = absurd (cc)
 named-at objects (NewCheckpoint lifetime) h is = absurd (cc)
 named-at objects WholeStore h is = absurd (cc)
 named-at objects (OfWrite n) h is = absurd (cc)
@@ -398,21 +398,21 @@ module _ (settings : Settings) (w w' : World) (command : Command) (reply : Reply
     stored_is = λ all. refused-none mode skips true (ap (λ m. follows_all m skips) (sym same_mode) ∙ (ap (λ s. follows_all f.mode s) (sym same_skips) ∙ all)) r;
   }
 
-  followed-fine : (mode : DbReaderMode) (skips : Bool) (r : Result (Follower × PollAnswer) SlateError) → Rebuilds k x mode skips true unseen (state_of w).store r s'.store → (b : Follower × PollAnswer) → r ≡ Ok b → Fine (AFollower b.0)
-  followed-fine mode skips (Ok c) d b is =
+  followed-fine : (mode : DbReaderMode) (skips : Bool) (lag : ℕ) (r : Result (Follower × PollAnswer) SlateError) → Rebuilds k x mode skips true lag (SeesOwed k mode skips lag) unseen (state_of w).store r s'.store → (b : Follower × PollAnswer) → r ≡ Ok b → Fine (AFollower b.0)
+  followed-fine mode skips lag (Ok c) d b is =
       let same : c ≡ b = cc in
       subst (λ (b : Follower × PollAnswer). Fine (AFollower b.0)) same (fine-follower mode skips c.0 (d.answer).0 (d.answer).1 (d.segmented w.catalogue w.stored refl refl tt))
-  followed-fine mode skips (Err e) d b is = absurd (cc)
+  followed-fine mode skips lag (Err e) d b is = absurd (cc)
 
-  took-fine : (lifetime interval : ℕ) (skips : Bool) (r : Result (Follower × PollAnswer) SlateError) → OpensManaged k x made lifetime interval skips command.moment (state_of w).store r s'.store → (b : Follower × PollAnswer) → r ≡ Ok b → Fine (AFollower b.0)
-  took-fine lifetime interval skips (Ok c) d b is =
+  took-fine : (lifetime interval : ℕ) (skips : Bool) (lag : ℕ) (r : Result (Follower × PollAnswer) SlateError) → OpensManaged k x made lifetime interval skips lag command.moment (state_of w).store r s'.store → (b : Follower × PollAnswer) → r ≡ Ok b → Fine (AFollower b.0)
+  took-fine lifetime interval skips lag (Ok c) d b is =
       let same : c ≡ b = cc in
       by-option (lease_refusal lifetime interval)
       (λ none.
       let t = d.takes none in
       subst (λ (b : Follower × PollAnswer). Fine (AFollower b.0)) same (fine-follower modes.ManagedCheckpoint skips c.0 (t.answers).0 (t.answers).1 (t.segmented w.catalogue w.stored refl refl)))
       (λ e refused. let no = (some-of _ (lease_refusal lifetime interval) e refused d.refused).0 in absurd (cc))
-  took-fine lifetime interval skips (Err e) d b is = absurd (cc)
+  took-fine lifetime interval skips lag (Err e) d b is = absurd (cc)
 
   -- a handle that was opened
   handle-opened : (keeps_log : Bool) (r : Result Handle SlateError) → OpensHandle k x made keeps_log settings.options.max_unflushed_bytes (option_tasks settings.options) (state_of w).store r s'.store → w'.objects ≡ w.objects ++ added AHandle r → (b : Handle) → r ≡ Ok b → Fine (AHandle b)
@@ -436,9 +436,9 @@ module _ (settings : Settings) (w w' : World) (command : Command) (reply : Reply
   fine-target : (target : Target) → DoesBy k settings command target made (state_of w) reply s' → AllFine
   fine-target (NewHandle keeps_log) d = fine-added AHandle d.result d.objects (λ b is. handle-opened keeps_log d.result d.does d.objects b is)
   fine-target (NewSnapshot n) d = opened-fine n (slice_get w.objects n) d
-  fine-target (NewFollower modes.FollowLatest managed skips) d = fine-added _ (d.0).result (d.0).objects (followed-fine modes.FollowLatest skips (d.0).result (d.0).does)
-  fine-target (NewFollower (modes.Checkpoint id) managed skips) d = fine-added _ (d.0).result (d.0).objects (followed-fine (modes.Checkpoint id) skips (d.0).result (d.0).does)
-  fine-target (NewFollower modes.ManagedCheckpoint managed skips) d = fine-added _ d.result d.objects (took-fine (lifetime_of managed) (interval_of managed) skips d.result d.does)
+  fine-target (NewFollower modes.FollowLatest managed skips lag) d = fine-added _ (d.0).result (d.0).objects (followed-fine modes.FollowLatest skips (lag_of lag) (d.0).result (d.0).does)
+  fine-target (NewFollower (modes.Checkpoint id) managed skips lag) d = fine-added _ (d.0).result (d.0).objects (followed-fine (modes.Checkpoint id) skips (lag_of lag) (d.0).result (d.0).does)
+  fine-target (NewFollower modes.ManagedCheckpoint managed skips lag) d = fine-added _ d.result d.objects (took-fine (lifetime_of managed) (interval_of managed) skips (lag_of lag) d.result d.does)
   fine-target (NewCheckpoint lifetime) d = fine-same d.objects
   fine-target WholeStore d = fine-same d.objects
   fine-target (OfWrite n) d = fine-state d.2

@@ -7,7 +7,7 @@ use Rattle.slate_store.specs.declared.objects.Checkpoint.{Checkpoint}
 use Rattle.slate_store.specs.declared.objects.VersionedManifest.{VersionedManifest}
 use Rattle.slate_store.specs.declared.refusals.StoreRefusal.TheVariants as refusals
 use Rattle.slate_errors.specs.declared.errors.SlateError.TheVariants as errors
-use Rattle.slate_model.specs.Begun.{Begun, Breaks, Ends, Ended, Fails, Goes, Puts, AsksLast, ReadsAgain, ReadsLatest, ReadsLog, Stage, Turn, asked_lease, begun_at, committed, decided, emptied, kept_lease, leads_on, noted, put_by, replayed, replaying}
+use Rattle.slate_model.specs.Begun.{Begun, Breaks, Ends, Ended, Fails, Goes, Puts, AsksLast, LooksAt, ReadsAgain, ReadsLatest, ReadsLog, Stage, Turn, asked_lease, begun_at, committed, decided, emptied, kept_lease, leads_on, noted, put_by, replayed, replaying}
 use Rattle.slate_model.specs.Follower.{Follower, kept_follower}
 use Rattle.slate_model.specs.Lease.{differs, is_due, leased}
 use Rattle.slate_model.specs.Write.{last_number}
@@ -84,6 +84,7 @@ module _ (reader : Follower) (skips : reader.skips ≡ true) where
   meets-bare begun o o' (Puts next given replaces) turn staged bare (inr (there, turn_is, same)) =
       subst LeftBare (sym turn_is) (if-bare (begun.overtaken == 7) (Fails (errors.TransactionalObjectTimeout 8)) (Goes (begun_at begun.moment (begun.overtaken + 1) begun.history kept_one)) tt tt)
   meets-bare begun o o' AsksLast turn reads bare met = absurd (cc (skips, reads))
+  meets-bare begun o o' (LooksAt id last) turn reads bare met = absurd (cc (skips, reads))
   meets-bare begun o o' (ReadsLog last) turn reads bare met = absurd (cc (skips, reads))
   meets-bare begun o o' ReadsAgain turn reads bare met = absurd (cc (skips, reads))
   meets-bare begun o o' Ended turn staged bare met = absurd met

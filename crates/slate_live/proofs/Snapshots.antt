@@ -128,9 +128,9 @@ module _ (settings : Settings) (w : World) (valid : IsValid w) (command : Comman
   were : (target : Target) → DoesBy k settings command target made (state_of w) reply s' → Were
   were (NewHandle keeps_log) d = were-added AHandle d.result d.objects (λ h x is same. absurd (cc))
   were (NewSnapshot n) d = were-taken n (slice_get w.objects n) refl d
-  were (NewFollower modes.FollowLatest managed skips) d = were-added _ (d.0).result (d.0).objects (λ b x is same. absurd (cc))
-  were (NewFollower (modes.Checkpoint id) managed skips) d = were-added _ (d.0).result (d.0).objects (λ b x is same. absurd (cc))
-  were (NewFollower modes.ManagedCheckpoint managed skips) d = were-added _ d.result d.objects (λ b x is same. absurd (cc))
+  were (NewFollower modes.FollowLatest managed skips lag) d = were-added _ (d.0).result (d.0).objects (λ b x is same. absurd (cc))
+  were (NewFollower (modes.Checkpoint id) managed skips lag) d = were-added _ (d.0).result (d.0).objects (λ b x is same. absurd (cc))
+  were (NewFollower modes.ManagedCheckpoint managed skips lag) d = were-added _ d.result d.objects (λ b x is same. absurd (cc))
   were (NewCheckpoint lifetime) d = were-same d.objects
   were WholeStore d = were-same d.objects
   were (OfWrite n) d = were-same (ap (λ (s : State Span). s.objects) d.2)

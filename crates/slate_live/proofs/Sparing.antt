@@ -8,7 +8,7 @@ use Rattle.slate_store.specs.Content.{IsPinned, IsSound}
 use Rattle.slate_store.specs.Objects.{Objects, PutManifest, changed, entry_at, is_present, latest_manifest}
 use Rattle.slate_store.specs.declared.objects.Checkpoint.{Checkpoint}
 use Rattle.slate_store.specs.declared.objects.VersionedManifest.{VersionedManifest}
-use Rattle.slate_model.specs.Begun.{AsksLast, Begun, Ended, Puts, ReadsAgain, ReadsLatest, ReadsLog, Stage, Turn, taken}
+use Rattle.slate_model.specs.Begun.{AsksLast, Begun, Ended, LooksAt, Puts, ReadsAgain, ReadsLatest, ReadsLog, Stage, Turn, taken}
 use Rattle.slate_model.specs.Follower.{Follower, kept_follower}
 use Rattle.slate_model.specs.Stood.{WasLatest}
 use Rattle.slate_model.specs.Write.{last_number}
@@ -106,6 +106,7 @@ module _ (o o' : Objects) (sound : IsSound o) (w : World) (reader : Follower) (b
           subst (IsSpared id c o) (sym put.1) (put-spares o sound latest is staged.2 replaces staged.0 next given staged.4 (p.read staged.0 staged.1).0 put.0 id c there (others staged.2 staged.3))
       by ReadsLatest staged same = unchanged id c there same
       by AsksLast staged same = unchanged id c there same
+      by (LooksAt at last) staged same = unchanged id c there same
       by (ReadsLog last) staged same = unchanged id c there same
       by ReadsAgain staged same = unchanged id c there same
       by Ended staged same = unchanged id c there same

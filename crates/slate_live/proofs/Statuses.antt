@@ -291,8 +291,8 @@ step-its settings w w' command reply reached next have =
       snapshot = λ snapshot. tt;
       follower = λ n f f' at names a. follower-its settings w command.moment next.made f f' reply (state_of w').store w'.writes ((reached.0).followers n f at).2 (have n (AFollower f) at) (call_of command.action) a;
       opened = λ keeps_log h d. opened-its settings w next.made keeps_log _ _ h (state_of w').store (reached.0).line d;
-      followed = λ mode skips b d. d.segments refl;
-      taken = λ lifetime skips b d. d.segments;
+      followed = λ mode skips lag b d. d.segments refl;
+      taken = λ lifetime skips lag b d. d.segments;
     }) next.does
 
 -- ---- the status

@@ -1,9 +1,10 @@
 -- What a command that makes the next call of a begun poll does over a store makes a link from each world that is represented.
-use Rattle.std.proofs.Common.{◌≡◌, ◌≢◌, ◌∙◌, ◌⊎◌, ◌==◌, ◌&&◌, not, inl, inr, ℕ, ◌+◌, ◌<◌, ◌≤◌, Bool, true, false, if◌then◌else◌, List, option_map, set, Option, Some, None, Result, Ok, Err, refl, sym, ap, subst, arith, ◌||◌}
-use Rattle.std.proofs.lemmas.Bool.{eq-eqb, eqb-true}
+use Rattle.std.proofs.Common.{◌≡◌, ◌≢◌, ◌∙◌, ◌⊎◌, ◌==◌, ◌&&◌, not, inl, inr, ℕ, ◌+◌, ◌<◌, ◌≤◌, max, Bool, true, false, if◌then◌else◌, List, option_map, set, Option, Some, None, Result, Ok, Err, refl, sym, ap, subst, arith, ◌||◌}
+use Rattle.std.proofs.lemmas.Bool.{eq-eqb, eqb-true, ltb-true}
 use Rattle.std.proofs.lemmas.List.{map-set}
 use Rattle.std.specs.List.{slice_get}
 use Rattle.std.specs.Option.{is_some, IfSome, MatchOption, is_none}
+use Rattle.std.specs.Prelude.{nat_lt}
 use Rattle.std.specs.Result.{IfErr}
 use Rattle.slate_types.specs.declared.batches.Batch.{Batch}
 use Rattle.slate_types.specs.declared.store_errors.StoreFault.TheVariants.{Unavailable}
@@ -19,6 +20,7 @@ use Rattle.slate_errors.specs.declared.errors.SlateError.{SlateError}
 use Rattle.slate_errors.specs.declared.errors.SlateError.TheVariants as errors
 use Rattle.slate_model.specs.Begun.{Begun, Breaks, Ends, Fails, Goes, Puts, Turn, ReadsLatest, Stage, taken}
 use Rattle.slate_model.specs.Catalogue.{Catalogue, catalogue_of}
+use Rattle.slate_model.specs.Follow.{come_by}
 use Rattle.slate_model.specs.Follower.{Follower, HasSegments, is_managed, is_pinned, kept_follower, number, unsegmented}
 use Rattle.slate_model.specs.Handle.{Handle}
 use Rattle.slate_model.specs.Known.{Known}
@@ -35,7 +37,7 @@ use Rattle.slate_model.specs.declared.leases.Lease.{Lease}
 use Rattle.slate_model.specs.declared.polls.FirstRead.{FirstRead}
 use Rattle.slate_model.proofs.Coming.{planned-other}
 use Rattle.slate_model.proofs.Keeping.{above-twice, line_above-end}
-use Rattle.slate_model.proofs.Logging.{OfLine, none-put_logs, stay-follow}
+use Rattle.slate_model.proofs.Logging.{OfLine, PastLine, none-put_logs, stay-follow}
 use Rattle.slate_model.proofs.Maintained.{Maintained}
 use Rattle.slate_model.proofs.Prefixes.{prefix-end, prefix-same}
 use Rattle.slate_model.proofs.Reduced.{some-same}
@@ -51,11 +53,11 @@ use Rattle.slate_script.specs.declared.replies.Reply.{Reply}
 use Rattle.slate_script.specs.declared.replies.Reply.TheVariants as replies
 use Rattle.slate_live.specs.Calls.{Steps as StepsKind, kind_of}
 use Rattle.slate_live.specs.Confirmed.{Sees}
-use Rattle.slate_live.specs.Next.{HasLease, NextBy, StepLeaves, shown, stored_in, owed_first, owed_now, tabled_number}
+use Rattle.slate_live.specs.Next.{HasLease, NextBy, StepLeaves, most_now, shown, stored_in, owed_first, owed_now, owed_past, tabled_number}
 use Rattle.slate_live.specs.Replies.{polled_reply, refusal, reply_to}
 use Rattle.slate_live.specs.Represents.{AreBefore, AllInSegments, AreInSegments, AreOfPast, HaveSegments, Holds, IsFollowerAt, IsHandleAt, IsHeld, IsValid, IsValidFollower, PollHasSegments, Represents, RepresentsObjects, StandsAt, follows_all, replays_all, StandsOn}
 use Rattle.slate_live.specs.Causes.{HasCauses}
-use Rattle.slate_live.specs.Reaching.{ReachesTo}
+use Rattle.slate_live.specs.Reaching.{IsApart, ReachesTo}
 use Rattle.slate_live.specs.Rising.{FollowerRises}
 use Rattle.slate_live.specs.Settings.{Settings}
 use Rattle.slate_live.specs.Standing.{IsStaged, PollStands, StandsBeside}
@@ -64,7 +66,7 @@ use Rattle.slate_live.specs.Stepping.{MakesCall, StepsAt, StepsObject, StepsOf, 
 use Rattle.slate_live.specs.Valid.{AtObject, CanStep, IsAnswered, IsStepped, IsStoreFault, IsValidCommand, IsValidKind, Link}
 use Rattle.slate_live.specs.World.{World}
 use Rattle.slate_live.proofs.Begun.{begun-set, steps-is}
-use Rattle.slate_live.proofs.Beside.{IsLatestBut, IsOfStored, ends-stored, put-tops, reader-stands, steps-after, steps-latest, steps-left, steps-maintain, steps-were, Aims, ends-number, ends-reach, goes-reaches, reaches-on}
+use Rattle.slate_live.proofs.Beside.{IsLatestBut, IsOfStored, ends-stored, latest-high, put-tops, reader-stands, steps-after, steps-latest, steps-left, steps-maintain, steps-were, Aims, ends-number, ends-reach, goes-reaches, reaches-on}
 use Rattle.slate_live.proofs.Cases.{is-none, if-some}
 use Rattle.slate_live.proofs.Changing.{followers-set, handles-set-follower}
 use Rattle.slate_live.proofs.Filling.{meets-fails, recorded-is, refused-is}
@@ -147,6 +149,21 @@ answers-eighth (errors.TransactionalObjectTimeout tries) of replied calm = inl (
 answers-eighth (errors.ObjectStoreError Unavailable) of replied calm = absurd (calm refl)
 answers-eighth errors.NoMemory of replied calm = inr replied
 answers-eighth e of replied calm = absurd of
+
+-- what a reader is owed that has come to a number is apart from that, and no more than is stored
+owed-apart : (lag reached stored : ℕ) → IsApart lag (owed_past lag reached stored) reached
+owed-apart lag reached stored = by (nat_lt (reached + lag) stored) refl
+  where
+    by : (x : Bool) → nat_lt (reached + lag) stored ≡ x → IsApart lag (if x then stored else reached) reached
+    by true far = inr (ltb-true (reached + lag) stored far)
+    by false near = inl (omega arith)
+
+owed-within : (lag reached stored : ℕ) → reached ≤ stored → owed_past lag reached stored ≤ stored
+owed-within lag reached stored low = by (nat_lt (reached + lag) stored)
+  where
+    by : (x : Bool) → (if x then stored else reached) ≤ stored
+    by true = omega arith
+    by false = low
 
 -- a poll that a step ended, also one at a log file that was removed
 polled-stepped : (answer : PollAnswer) → IsStepped (polled_reply answer)
@@ -366,7 +383,7 @@ module _ (settings : Settings) (n : ℕ) (command : Command) (live live' : Live)
       -- and reaches what its reader was owed
       reach-mine : (i : ℕ) → i ≡ n → (f : Follower) (b' : Begun) → IfSome b'.history.first (λ _. ReachesTo (owed_first w n g b) o' w1 f b') → IfSome b'.history.first (λ _. ReachesTo (owed' i) o' w' f b')
       reach-mine i here f b' = if-some b'.history.first (λ _. ReachesTo (owed_first w n g b) o' w1 f b') (λ _. ReachesTo (owed' i) o' w' f b')
-          (λ _ x. subst (λ k. ReachesTo k o' w' f b') (sym (ap owed' here ∙ owed-mine)) (record { stored = x.stored; tabled = x.tabled; anew = x.anew; next = x.next }))
+          (λ _ x. subst (λ k. ReachesTo k o' w' f b') (sym (ap owed' here ∙ owed-mine)) (record { stored = x.stored; tabled = x.tabled; apart = x.apart; anew = x.anew; next = x.next }))
 
       reach-then : (i : ℕ) → (i ≡ n → ⊥) → (f : Follower) (b' : Begun) → PollStands o w f b' → IfSome b'.history.first (λ _. ReachesTo (w.owed i) o w f b') → IfSome b'.history.first (λ _. ReachesTo (owed' i) o' w' f b')
       reach-then i other f b' p =
@@ -375,8 +392,8 @@ module _ (settings : Settings) (n : ℕ) (command : Command) (live live' : Live)
           let tabled = next.3 in
           if-some b'.history.first (λ _. ReachesTo (w.owed i) o w f b') (λ _. ReachesTo (owed' i) o' w' f b')
           (λ _ x. subst (λ k. ReachesTo k o' w' f b') (sym (owed-other i other))
-          (reaches-on (w.owed i) w w' o o' l.0 next.0 l.1 next.1 (ro.held).3 holds' (prefix-same w.stored) (omega (arith, tabled))
-          (stay-follow o o' (l.0).manifest.replay_after_wal_id (next.0).manifest.replay_after_wal_id (sym next.4) (m.logs l.0 l.1)) (m.goes (last_log (l.0).manifest.replay_after_wal_id o)) f b' x))
+          (reaches-on (w.owed i) w w' o o' l.0 next.0 l.1 next.1 (ro.held).3 holds' (prefix-same w.stored) (omega (arith, tabled)) (inl tabled)
+          (stay-follow o o' (l.0).manifest.replay_after_wal_id (next.0).manifest.replay_after_wal_id (sym next.4) (m.logs l.0 l.1)) (m.goes (last_log (l.0).manifest.replay_after_wal_id o)) (none-put_logs o o' m.logs_are (PastLine w.stored)) f b' x))
 
       polls-are : live'.polls ≡ set w.polls n poll'
       polls-are = ap (λ (l : Live). l.polls) same
@@ -581,7 +598,8 @@ module _ (settings : Settings) (n : ℕ) (command : Command) (live live' : Live)
     -- a step of a reader that stays at a checkpoint has its causes
     pinned-causes : is_pinned g.mode ≡ true → reply ≡ replies.Polled true (number (kept_follower g)) → (v : World) → v.owed n ≡ owed_first w n g b → HasCauses n w g b reply v
     pinned-causes pinned replied v owed =
-        let now : owed_now w g ≡ number g = ap (λ x. if x then number g else (if g.skips then tabled_number (latest_manifest w.catalogue) else end w.stored)) pinned in
+        let now : owed_now w g ≡ number g = ap (λ x. if x then number g else (if g.skips then tabled_number (latest_manifest w.catalogue) else owed_past g.lag (max (number g) (tabled_number (latest_manifest w.catalogue))) (end w.stored))) pinned in
+        let most : most_now w g ≡ number g = ap (λ x. if x then number g else (if g.skips then tabled_number (latest_manifest w.catalogue) else end w.stored)) pinned in
         let first : v.owed n ≡ number g = owed ∙ (ap (λ x. if x || is_none b.history.first then owed_now w g else w.owed n) pinned ∙ now) in
         let same = line_above-end g.view.manifest.last_l0_seq g.line in
         record {
@@ -591,7 +609,7 @@ module _ (settings : Settings) (n : ℕ) (command : Command) (live live' : Live)
           stepped = λ is. absurd (let no = sym replied ∙ is in cc);
           whole = λ k is.
               let here : number (kept_follower g) ≡ k = (let both = sym replied ∙ is in cc) in
-              (omega (arith, first, same, here), omega (arith, now, same, here));
+              (omega (arith, first, same, here), omega (arith, most, same, here));
         }
 
     pinned-steps : is_pinned g.mode ≡ true → (s.result ≡ Ok (Some (answers.Whole (number (kept_follower g))))) × (new ≡ kept_follower g) × (store' ≡ stored_in o w) → Out
@@ -642,24 +660,48 @@ module _ (settings : Settings) (n : ℕ) (command : Command) (live live' : Live)
       aims : Aims live store store' w o o' (ro.held).2 (ro.held).3 ro.valid (ro.held).4 ro there' g open_ free b p target
       aims = by b.history.first refl p.lasts.since (free-stands free).1
         where
-          now : owed_now w g ≡ (if g.skips then tabled_number (latest_manifest w.catalogue) else end w.stored)
-          now = ap (λ x. if x then number g else (if g.skips then tabled_number (latest_manifest w.catalogue) else end w.stored)) free
+          tabled : ℕ
+          tabled = tabled_number (latest_manifest w.catalogue)
+
+          past : ℕ
+          past = owed_past g.lag (max (number g) tabled) (end w.stored)
+
+          now : owed_now w g ≡ (if g.skips then tabled else past)
+          now = ap (λ x. if x then number g else (if g.skips then tabled else past)) free
+
+          tabled-within : tabled ≤ end w.stored
+          tabled-within =
+              let l = p.lasts.latest in
+              let at_latest : latest_manifest w.catalogue ≡ Some l.0 = sym (ap latest_manifest (ro.held).3.catalogue) ∙ l.1 in
+              let same : tabled ≡ (l.0).manifest.last_l0_seq = ap tabled_number at_latest in
+              let high = latest-high w o (ro.held).2 (ro.held).3 ro.valid (ro.held).4 g free l.0 l.1 in
+              omega (arith, same, high)
+
+          within : (skips : Bool) → (if skips then tabled else past) ≤ end w.stored
+          within true = tabled-within
+          within false =
+              let low = prefix-end g.line w.stored p.reader_stands.valid.0 in
+              let high = tabled-within in
+              owed-within g.lag (max (number g) tabled) (end w.stored) (omega (arith, low, high))
 
           by : (first : Option FirstRead) → b.history.first ≡ first → MatchOption first ((b.stage ≡ ReadsLatest) × (b.history.steps ≡ 0)) (λ first. LastsSince first o (kept_follower g) b) → IfSome b.history.first (λ _. ReachesTo (w.owed n) o w g b) →
               Aims live store store' w o o' (ro.held).2 (ro.held).3 ro.valid (ro.held).4 ro there' g open_ free b p target
           by None none start reaches =
-              let is : target ≡ (if g.skips then tabled_number (latest_manifest w.catalogue) else end w.stored) =
+              let is : target ≡ (if g.skips then tabled else past) =
               ap (λ x. if is_pinned g.mode || is_none x then owed_now w g else w.owed n) none ∙ (ap (λ x. if x || true then owed_now w g else w.owed n) free ∙ now) in
               record {
-                stored = λ reads. (let e = is ∙ ap (λ x. if x then tabled_number (latest_manifest w.catalogue) else end w.stored) reads in omega (arith, e));
-                tabled = λ skips l there. (let e = is ∙ (ap (λ x. if x then tabled_number (latest_manifest w.catalogue) else end w.stored) skips ∙ ap tabled_number there) in omega (arith, e));
+                stored = (let low = within g.skips in omega (arith, is, low));
+                tabled = λ skips l there. (let e = is ∙ (ap (λ x. if x then tabled else past) skips ∙ ap tabled_number there) in omega (arith, e));
+                apart = λ reads l there.
+                    let e : target ≡ owed_past g.lag (come_by g l) (end w.stored) = is ∙ (ap (λ x. if x then tabled else past) reads ∙ ap (λ k. owed_past g.lag (max (number g) k) (end w.stored)) (ap tabled_number there)) in
+                    subst (λ k. IsApart g.lag k (come_by g l)) (sym e) (owed-apart g.lag (come_by g l) (end w.stored));
                 before = inl start.0;
               }
           by (Some first) some since reaches =
               let x = subst (λ y. IfSome y (λ _. ReachesTo (w.owed n) o w g b)) some reaches in
               let is : w.owed n ≡ target = sym (ap (λ x. if is_pinned g.mode || is_none x then owed_now w g else w.owed n) some ∙ ap (λ x. if x || false then owed_now w g else w.owed n) free) in
               let to = subst (λ k. ReachesTo k o w g b) is x in
-              record { stored = to.stored; tabled = to.tabled; before = inr (to.anew, to.next) }
+              record { stored = to.stored; tabled = to.tabled; apart = to.apart; before = inr (to.anew, to.next) }
 
       m : Maintained o o'
       m = steps-maintain live store store' w o o' (ro.held).2 (ro.held).3 ro.valid (ro.held).4 ro there' g open_ free b p new s.left s.result found.2
@@ -850,7 +892,7 @@ module _ (settings : Settings) (n : ℕ) (command : Command) (live live' : Live)
         none-eighth : (r : Result (Option PollAnswer) SlateError) → Steps (kept_follower g) b r o new s.left o' → (IsOfEighth r → ⊥) → IsEighth w.catalogue b → ⊥
         none-eighth r steps never eighth = never ((tries-of r steps).exact (eighth-stored eighth))
 
-        whole-causes : (k : ℕ) → reply ≡ replies.Polled true k → Steps (kept_follower g) b (Ok (Some (answers.Whole k))) o new s.left o' → (v.owed n ≤ k) × (k ≤ owed_now w g)
+        whole-causes : (k : ℕ) → reply ≡ replies.Polled true k → Steps (kept_follower g) b (Ok (Some (answers.Whole k))) o new s.left o' → (v.owed n ≤ k) × (k ≤ most_now w g)
         whole-causes k replied steps =
             let last = steps.0 in
             let here : k ≡ number new = (let e = steps.3 in cc) in
@@ -859,12 +901,12 @@ module _ (settings : Settings) (n : ℕ) (command : Command) (live live' : Live)
             let after = steps-after live store store' w o o' (ro.held).2 (ro.held).3 ro.valid (ro.held).4 ro there' g open_ free b p m new s.left (Ok (Some (answers.Whole k))) steps in
             let whole = after.0 in
             let number_is : number new ≡ number whole = ap (λ (f : Follower). number f) after.1 ∙ line_above-end whole.view.manifest.last_l0_seq whole.line in
-            (omega (arith, owed, here, low, reached), subst (λ j. j ≤ owed_now w g) (sym (here ∙ number_is)) (up-to whole after.2 after.3 g.skips refl))
+            (omega (arith, owed, here, low, reached), subst (λ j. j ≤ most_now w g) (sym (here ∙ number_is)) (up-to whole after.2 after.3 g.skips refl))
           where
-            now : owed_now w g ≡ (if g.skips then tabled_number (latest_manifest w.catalogue) else end w.stored)
+            now : most_now w g ≡ (if g.skips then tabled_number (latest_manifest w.catalogue) else end w.stored)
             now = ap (λ x. if x then number g else (if g.skips then tabled_number (latest_manifest w.catalogue) else end w.stored)) free
 
-            up-to : (whole : Follower) → StandsBeside o' (record w { catalogue = catalogue_of o'; faults = store'.faults }) whole → FollowerRises g whole → (skips : Bool) → g.skips ≡ skips → number whole ≤ owed_now w g
+            up-to : (whole : Follower) → StandsBeside o' (record w { catalogue = catalogue_of o'; faults = store'.faults }) whole → FollowerRises g whole → (skips : Bool) → g.skips ≡ skips → number whole ≤ most_now w g
             up-to whole stands rises true skips =
                 let l = p.lasts.latest in
                 let next = m.latest l.0 l.1 in
@@ -872,11 +914,11 @@ module _ (settings : Settings) (n : ℕ) (command : Command) (live live' : Live)
                 let mode : is_pinned whole.mode ≡ false = ap is_pinned rises.mode ∙ free in
                 let low = stands.valid.1 (rises.skips ∙ skips) mode next.0 next.1 in
                 let at_latest : latest_manifest w.catalogue ≡ Some l.0 = sym (ap latest_manifest (ro.held).3.catalogue) ∙ l.1 in
-                let is : owed_now w g ≡ (l.0).manifest.last_l0_seq = now ∙ (ap (λ x. if x then tabled_number (latest_manifest w.catalogue) else end w.stored) skips ∙ ap tabled_number at_latest) in
+                let is : most_now w g ≡ (l.0).manifest.last_l0_seq = now ∙ (ap (λ x. if x then tabled_number (latest_manifest w.catalogue) else end w.stored) skips ∙ ap tabled_number at_latest) in
                 omega (arith, low, tabled, is)
             up-to whole stands rises false reads =
                 let low = prefix-end whole.line w.stored stands.valid.0 in
-                let is : owed_now w g ≡ end w.stored = now ∙ ap (λ x. if x then tabled_number (latest_manifest w.catalogue) else end w.stored) reads in
+                let is : most_now w g ≡ end w.stored = now ∙ ap (λ x. if x then tabled_number (latest_manifest w.catalogue) else end w.stored) reads in
                 omega (arith, low, is)
 
         causes-of : (r : Result (Option PollAnswer) SlateError) → s.result ≡ r → reply ≡ reply_to stepped_reply r → Steps (kept_follower g) b r o new s.left o' → HasCauses n w g b reply v
@@ -892,7 +934,7 @@ module _ (settings : Settings) (n : ℕ) (command : Command) (live live' : Live)
           tried = λ tries at. absurd (let no = sym replied ∙ at in cc);
           eighth = λ unpinned eighth calm. absurd (none-eighth (Ok (Some (answers.Whole k))) steps (λ never. never) eighth);
           stepped = λ at. absurd (let no = sym replied ∙ at in cc);
-          whole = λ j at. let same : k ≡ j = (let both = sym replied ∙ at in cc) in subst (λ x. (v.owed n ≤ x) × (x ≤ owed_now w g)) same (whole-causes k replied steps);
+          whole = λ j at. let same : k ≡ j = (let both = sym replied ∙ at in cc) in subst (λ x. (v.owed n ≤ x) × (x ≤ most_now w g)) same (whole-causes k replied steps);
         }
         causes-of (Ok (Some (answers.Truncated k))) is replied steps = record {
           truncated = λ j at.
@@ -969,7 +1011,7 @@ module _ (settings : Settings) (n : ℕ) (command : Command) (live live' : Live)
               past = stands.past;
               held = (stands.held.0, λ unpinned. let seen = stands.held.1 unpinned in record { mark = seen.mark; logs = seen.logs });
             };
-            rises = record { mode = rises.mode; skips = rises.skips; number = rises.number; result = rises.result };
+            rises = record { mode = rises.mode; skips = rises.skips; lag = rises.lag; number = rises.number; result = rises.result };
             begun = λ b' here. absurd (let no = sym left ∙ here in cc);
             were = were;
             open_ = open_;
@@ -1031,7 +1073,7 @@ module _ (settings : Settings) (n : ℕ) (command : Command) (live live' : Live)
               past = before_stands.past;
               held = (before_stands.held.0, λ unpinned. let seen = before_stands.held.1 unpinned in record { mark = seen.mark; logs = seen.logs });
             },
-            record { mode = refl; skips = refl; number = omega arith; result = is-none (λ q. poll_result e ≡ Some q) g.result open_ },
+            record { mode = refl; skips = refl; lag = refl; number = omega arith; result = is-none (λ q. poll_result e ≡ Some q) g.result open_ },
           )
           failing false = (before_stands, follower-same g g refl)
 

@@ -15,7 +15,7 @@ use Rattle.slate_model.specs.Catalogue.{Span, catalogue_of}
 use Rattle.slate_model.specs.declared.answers.PollAnswer.{PollAnswer}
 use Rattle.slate_model.specs.declared.leases.Lease.{Lease}
 use Rattle.slate_model.specs.Follow.{AreFollowed}
-use Rattle.slate_model.specs.Followed.{RefusesLatest, can_follow}
+use Rattle.slate_model.specs.Followed.{IsView, RefusesLatest, can_follow}
 use Rattle.slate_model.specs.Follower.{Follower, kept_follower}
 use Rattle.slate_model.specs.Knowledge.{Knowledge}
 use Rattle.slate_model.specs.Known.{Known, Untouched}
@@ -33,7 +33,7 @@ use Rattle.slate_model.proofs.Reduced.{as_modelled, catalogued, followed-err, fo
 use Rattle.slate_live.specs.Represents.{IsValidFollower}
 use Rattle.slate_live.proofs.Cases.{by-option, is-none, some-of}
 use Rattle.slate_live.proofs.Knowing.{AfterOf, objects-same, unchanged-objects}
-use Rattle.slate_live.proofs.Leasing.{leased-answers, leased-held, leased-kept, leased-sees, leased-segments, leased-stored, leased-valid, leased_whole}
+use Rattle.slate_live.proofs.Leasing.{leased-held, leased-kept, leased-segments, leased-stored, leased-valid, leased_whole, taken-answers, taken-kept, taken-lined, taken-sees, taken_line}
 
 -- a plan that takes a lease is of a database that is initialised
 taken-initialized : (lifetime : ℕ) (moment : ℤ) (latest : VersionedManifest) (given : Option VersionedManifest × Lease) → to_take lifetime moment latest ≡ Ok given → latest.manifest.initialized ≡ true
@@ -46,12 +46,12 @@ or-opening : (b : Bool) → b ≡ true → (b || not true) ≡ true
 or-opening true is = refl
 or-opening false is = absurd (cc)
 
-module _ (ext : Option Extractor) (stored : Line) (o : Objects) (f made lifetime interval : ℕ) (skips : Bool) (moment : ℤ) where
+module _ (ext : Option Extractor) (stored : Line) (o : Objects) (f made lifetime interval : ℕ) (skips : Bool) (lag : ℕ) (moment : ℤ) where
   abbrev world : Knowledge Span
   world = by_catalogue stored (catalogue_of o)
 
   -- the objects after it
-  pub taken-after : (r : Result (Follower × PollAnswer) SlateError) (store' : Known (List Batch)) → OpensManaged (by_objects (Some o)) ext made lifetime interval skips moment (holding o f) r store' → AfterOf store'
+  pub taken-after : (r : Result (Follower × PollAnswer) SlateError) (store' : Known (List Batch)) → OpensManaged (by_objects (Some o)) ext made lifetime interval skips lag moment (holding o f) r store' → AfterOf store'
   taken-after r store' d =
       by-option (lease_refusal lifetime interval)
       (λ none. let t = ((d.takes none).puts).some o refl in (t.0, t.1))
@@ -59,28 +59,31 @@ module _ (ext : Option Extractor) (stored : Line) (o : Objects) (f made lifetime
 
   module _ (o' : Objects) (f' : ℕ) (sound : IsSound o) (holds : content o ≡ stored) where
     -- the whole follower, of which the code keeps a part
+    abbrev pub taken_follower : Follower → Follower
+    taken_follower b = leased_whole modes.ManagedCheckpoint skips lag b.view (taken_line stored skips o' b.view) b
+
     abbrev pub taken_whole : Result (Follower × PollAnswer) SlateError → Result (Follower × PollAnswer) SlateError
-    taken_whole (Ok b) = Ok (leased_whole o' stored skips b.0.view b.0, b.1)
+    taken_whole (Ok b) = Ok (taken_follower b.0, b.1)
     taken_whole (Err e) = Err e
 
     -- what holds of that follower
     pub record IsTaken (b : Follower × PollAnswer) : Type 0 where
-      pub kept : b.0 ≡ kept_follower (leased_whole o' stored skips b.0.view b.0)
+      pub kept : b.0 ≡ kept_follower (taken_follower b.0)
       pub found : latest_manifest o' ≡ Some b.0.view
-      pub valid : IsValidFollower stored (catalogue_of o') (leased_whole o' stored skips b.0.view b.0)
+      pub valid : IsValidFollower stored (catalogue_of o') (taken_follower b.0)
       pub tables : AreStored o' b.0.view.manifest.tables
-      pub held : IsHeld o' (AFollower (leased_whole o' stored skips b.0.view b.0))
+      pub held : IsHeld o' (AFollower (taken_follower b.0))
 
     pub record Taken (r : Result (Follower × PollAnswer) SlateError) : Type 0 where
       pub maintained : Maintained o o'
       pub new : IfOk r IsTaken
-      pub known : OpensManaged world ext made lifetime interval skips moment (catalogued o f) (taken_whole r) (catalogued o' f')
+      pub known : OpensManaged world ext made lifetime interval skips lag moment (catalogued o f) (taken_whole r) (catalogued o' f')
 
     -- the opening of the world, where the options pass
-    passes : (r : Result (Follower × PollAnswer) SlateError) → lease_refusal lifetime interval ≡ None → TakesLease world ext made lifetime skips moment (catalogued o f) r (catalogued o' f') → OpensManaged world ext made lifetime interval skips moment (catalogued o f) r (catalogued o' f')
+    passes : (r : Result (Follower × PollAnswer) SlateError) → lease_refusal lifetime interval ≡ None → TakesLease world ext made lifetime skips lag moment (catalogued o f) r (catalogued o' f') → OpensManaged world ext made lifetime interval skips lag moment (catalogued o f) r (catalogued o' f')
     passes r none t = record { refused = is-none _ (lease_refusal lifetime interval) none; takes = λ _. t }
 
-    by-taking : (r : Result (Follower × PollAnswer) SlateError) → lease_refusal lifetime interval ≡ None → TakesLease (by_objects (Some o)) ext made lifetime skips moment (holding o f) r (holding o' f') → Taken r
+    by-taking : (r : Result (Follower × PollAnswer) SlateError) → lease_refusal lifetime interval ≡ None → TakesLease (by_objects (Some o)) ext made lifetime skips lag moment (holding o f) r (holding o' f') → Taken r
     by-taking (Err e) none t =
         let puts = modelled o o' t.puts in
         record {
@@ -113,31 +116,35 @@ module _ (ext : Option Extractor) (stored : Line) (o : Objects) (f made lifetime
         let here = m.content ∙ holds in
         let can : can_follow true view ≡ true = or-opening view.manifest.initialized (ap (λ (x : Manifest). x.initialized) its.1 ∙ taken-initialized lifetime moment latest (Some view, q.given) plan) in
         let all = (q.sees).sees stored (o, refl, sound, sym holds) tt in
+        let v : IsView modes.ManagedCheckpoint true o' view = (view, found, can, refl) in
+        let line = taken_line stored skips o' view in
+        let lined = taken-lined stored skips true lag o' view m.sound here v b.0 (Some o) b.1 all in
+        let its_part = taken-kept stored skips true lag o' view m.sound here v b.0 (Some o) b.1 all in
         record {
           maintained = m;
           new = record {
-            kept = leased-kept stored skips true o' view m.sound here found can b.0 (Some o) b.1 all (refl, refl);
+            kept = leased-kept stored modes.ManagedCheckpoint skips true lag o' view m.sound here v b.0 line lined its_part (refl, refl);
             found = found;
-            valid = leased-valid stored skips true o' view m.sound here found can b.0 (Some o) b.1 all (refl, refl) (subst (λ l. is_some l ≡ true) (sym q.leased) refl);
-            tables = leased-stored stored skips true o' view m.sound here found can b.0 (Some o) b.1 all (refl, refl);
-            held = leased-held stored skips true o' view m.sound here found can b.0 (Some o) b.1 all (refl, refl);
+            valid = leased-valid stored modes.ManagedCheckpoint skips true lag o' view m.sound here v b.0 line lined its_part (refl, refl) (subst (λ l. is_some l ≡ true) (sym q.leased) refl);
+            tables = leased-stored stored modes.ManagedCheckpoint skips true lag o' view m.sound here v b.0 line lined its_part (refl, refl);
+            held = leased-held stored modes.ManagedCheckpoint skips true lag o' view m.sound here v b.0 line lined its_part (refl, refl);
           };
           known = passes (taken_whole (Ok b)) none (record {
             faults = record { count = t.faults.count; unavailable = λ no. absurd (cc); stays = t.faults.stays; none_missing = λ no. absurd (cc) };
             puts = as_modelled (catalogue_of o) (catalogue_of o') (puts-known (to_take lifetime moment) (take-recheckpoints lifetime moment) o sound stored (TakeRefusal ext) (TakeRefusal ext) (take_refusal-known ext o) (taken_whole (Ok b)) made o' (record { cause = tt; part = puts.part; after = puts.after }));
-            answers = (refl, refl, refl, leased-answers stored skips true o' view m.sound here found can b.0 (Some o) b.1 all (refl, refl));
+            answers = (refl, refl, refl, refl, taken-answers stored skips true lag o' view m.sound here v b.0 (Some o) b.1 all);
             takes = as_modelled (catalogue_of o) (catalogue_of o') (record {
               given = q.given;
               plan = q.plan;
               leased = q.leased;
-              sees = leased-sees stored skips true o' view m.sound here found can b.0 (Some o) b.1 all (refl, refl) (catalogue_of o) unseen_line (q.sees).logs;
+              sees = taken-sees stored skips true lag o' view m.sound here v b.0 (Some o) b.1 all (catalogue_of o) unseen_line (q.sees).logs;
             });
             fits = λ c at. subst (λ x. RefusesLatest ext true x None) (some-same (catalogue_of o) c at) (t.fits o refl);
             segmented = λ c line at stored_is.
                 subst (λ x. AreFollowed world ext modes.ManagedCheckpoint skips true x line (taken_whole (Ok b))) (some-same (catalogue_of o) c at)
                 (subst (λ l. AreFollowed world ext modes.ManagedCheckpoint skips true (catalogue_of o) l (taken_whole (Ok b))) (sym stored_is)
-                (followed-ok ext stored (catalogue_of o) (Some o) modes.ManagedCheckpoint skips o sound holds {A = Follower × PollAnswer} {B = Follower × PollAnswer} true b (leased_whole o' stored skips b.0.view b.0, b.1) (t.segmented o stored refl (o, refl, sound, sym holds))));
-            segments = leased-segments stored skips true o' view m.sound here found can b.0 (Some o) b.1 all (refl, refl) ext t.segments;
+                (followed-ok ext stored (catalogue_of o) (Some o) modes.ManagedCheckpoint skips o sound holds {A = Follower × PollAnswer} {B = Follower × PollAnswer} true b (taken_follower b.0, b.1) (t.segmented o stored refl (o, refl, sound, sym holds))));
+            segments = leased-segments stored modes.ManagedCheckpoint skips true lag o' view m.sound here v b.0 line lined its_part (refl, refl) ext t.segments;
             whole = λ key is. absurd (cc);
           });
         }
@@ -154,7 +161,7 @@ module _ (ext : Option Extractor) (stored : Line) (o : Objects) (f made lifetime
       };
     }
 
-    pub taken : (r : Result (Follower × PollAnswer) SlateError) → OpensManaged (by_objects (Some o)) ext made lifetime interval skips moment (holding o f) r (holding o' f') → Taken r
+    pub taken : (r : Result (Follower × PollAnswer) SlateError) → OpensManaged (by_objects (Some o)) ext made lifetime interval skips lag moment (holding o f) r (holding o' f') → Taken r
     taken r d =
         by-option (lease_refusal lifetime interval)
         (λ none. by-taking r none (d.takes none))

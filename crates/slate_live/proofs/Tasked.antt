@@ -1,5 +1,6 @@
 -- What a command leaves of the tasks that run for an object.
 use Rattle.std.proofs.Common.{◌≡◌, ◌≢◌, ◌++◌, ◌∙◌, inl, inr, ℕ, ℤ, Bool, true, false, cond, List, [], set, Option, Some, None, Result, Ok, Err, refl, sym, subst, ap}
+use Rattle.std.specs.Prelude.{unwrap_or}
 use Rattle.std.proofs.lemmas.Bool.{cases_eq, eq-eqb, eqb-true}
 use Rattle.std.specs.List.{slice_get}
 use Rattle.slate_types.specs.declared.batches.KeyOp.{KeyOp}
@@ -20,7 +21,7 @@ use Rattle.slate_model.specs.Follower.{Follower, follower_tasks, is_managed, is_
 use Rattle.slate_model.specs.Handle.{CloseResult, Handle}
 use Rattle.slate_model.specs.Knowledge.{Knowledge}
 use Rattle.slate_model.specs.Known.{Known, Untouched}
-use Rattle.slate_model.specs.Managed.{KeepsLease, PollsManaged, PollsTwice}
+use Rattle.slate_model.specs.Managed.{KeepsLease, PollsManaged, PollsTwice, follower_under}
 use Rattle.slate_model.specs.Object.{Object, Handle as AHandle, Snapshot as ASnapshot, Follower as AFollower}
 use Rattle.slate_model.specs.Segments.{Extractor}
 use Rattle.slate_model.specs.Stores.{by_catalogue}
@@ -48,6 +49,7 @@ use Rattle.slate_live.specs.World.{NextWhole, World, state_of}
 use Rattle.slate_live.proofs.Cases.{by-bool, by-option, close-by, compact-by, flush-by, refresh-by, some-of}
 use Rattle.slate_live.proofs.Naming.{follower-did, handle-acted, handle-did}
 use Rattle.slate_live.proofs.Places.{get-before, get-set_other, get-set_same}
+use Rattle.slate_live.proofs.Following.{polled-tasks}
 use Rattle.slate_live.proofs.Rising.{managed-mode}
 
 -- the tasks that a call leaves running
@@ -130,7 +132,7 @@ module _ (ext : Option Extractor) (stored : Line) (catalogue : Catalogue) (made 
   free-tasks (Ok answer) live false free p =
       let b = p.rebuilds live free in
       let all = b.sees catalogue stored at refl tt in
-      rebuilt-tasks live b.answer.0 (ap (λ (g : Follower). g.tasks) all.2)
+      rebuilt-tasks live b.answer.0 (polled-tasks stored catalogue catalogue f f' answer all)
 
   poll-tasks : (r : Result PollAnswer SlateError) → Polls (by_catalogue stored catalogue) ext f before r f' after → HasTasks f.tasks f'
   poll-tasks r p =
@@ -144,10 +146,10 @@ module _ (ext : Option Extractor) (stored : Line) (catalogue : Catalogue) (made 
   leased-tasks : (lease : Lease) (r : Result PollAnswer SlateError) → is_managed f.mode ≡ true → f.result ≡ None → KeepsLease (by_catalogue stored catalogue) ext made lease moment f before r f' after → HasTasks f.tasks f'
   leased-tasks lease (Err e) managed live p = subst (HasTasks f.tasks) (sym p.failed) (refl, λ open_. tasked live)
   leased-tasks lease (Ok answer) managed live p =
-      let keeps = ((p.keeps).some catalogue at).2 in
+      let t = (p.keeps).some catalogue at in
+      let keeps = t.2 in
       let all = (keeps.sees).sees stored refl tt in
-      let mode = managed-mode f.mode managed in
-      rebuilt-tasks live ((p.answers).0 ∙ sym mode) (ap (λ (g : Follower). g.tasks) all.2 ∙ ap follower_tasks (sym mode))
+      rebuilt-tasks live ((p.answers).0 ∙ sym (managed-mode f.mode managed)) (polled-tasks stored catalogue t.0 f (follower_under (unwrap_or keeps.next keeps.latest) f') answer all)
 
 module _ (ext : Option Extractor) (stored : Line) (catalogue : Catalogue) (made : ℕ) (moment : ℤ) (f f' : Follower) (before after : Known Span) (at : before.objects ≡ Some catalogue) (tasked : IsTasked f) where
   -- where a renewal follows the round
@@ -155,7 +157,7 @@ module _ (ext : Option Extractor) (stored : Line) (catalogue : Catalogue) (made 
   twice-tasks lease (Ok answer) managed live p = subst (HasTasks f.tasks) (sym (p.answers).1) (leased-tasks ext stored catalogue p.first moment f p.middle before p.between at tasked lease (Ok p.answer) managed live p.round)
   twice-tasks lease (Err e) managed live p =
       let h = leased-tasks ext stored catalogue p.first moment f p.middle before p.between at tasked lease (Ok p.answer) managed live p.round in
-      subst (HasTasks f.tasks) (sym p.failed) (h.0, λ open_. h.1 (p.round.answers).2)
+      subst (HasTasks f.tasks) (sym p.failed) (h.0, λ open_. h.1 (p.round.answers).3)
 
   managed-tasks : (r : Result PollAnswer SlateError) → IsLeased f → is_managed f.mode ≡ true → PollsManaged (by_catalogue stored catalogue) ext made moment f before r f' after → HasTasks f.tasks f'
   managed-tasks r leased managed p =
@@ -282,9 +284,9 @@ module _ (settings : Settings) (w : World) (command : Command) (made : ℕ) (rep
     by-target : (target : Target) → target_of command.action ≡ target → DoesBy k settings command target made (state_of w) reply s' → Stays
     by-target (NewHandle keeps_log) names d = more-objects (not-it (NewHandle keeps_log) names (λ is. absurd (cc))) _ d.objects
     by-target (NewSnapshot m) names d = sampled m (slice_get w.objects m) (not-it (NewSnapshot m) names (λ is. absurd (cc))) d
-    by-target (NewFollower modes.FollowLatest managed skips) names d = more-objects (not-it (NewFollower modes.FollowLatest managed skips) names (λ is. absurd (cc))) _ (d.0).objects
-    by-target (NewFollower (modes.Checkpoint id) managed skips) names d = more-objects (not-it (NewFollower (modes.Checkpoint id) managed skips) names (λ is. absurd (cc))) _ (d.0).objects
-    by-target (NewFollower modes.ManagedCheckpoint managed skips) names d = more-objects (not-it (NewFollower modes.ManagedCheckpoint managed skips) names (λ is. absurd (cc))) _ d.objects
+    by-target (NewFollower modes.FollowLatest managed skips lag) names d = more-objects (not-it (NewFollower modes.FollowLatest managed skips lag) names (λ is. absurd (cc))) _ (d.0).objects
+    by-target (NewFollower (modes.Checkpoint id) managed skips lag) names d = more-objects (not-it (NewFollower (modes.Checkpoint id) managed skips lag) names (λ is. absurd (cc))) _ (d.0).objects
+    by-target (NewFollower modes.ManagedCheckpoint managed skips lag) names d = more-objects (not-it (NewFollower modes.ManagedCheckpoint managed skips lag) names (λ is. absurd (cc))) _ d.objects
     by-target (NewCheckpoint lifetime) names d = same-objects (not-it (NewCheckpoint lifetime) names (λ is. absurd (cc))) d.objects
     by-target WholeStore names d = same-objects (not-it WholeStore names (λ is. absurd (cc))) d.objects
     by-target (OfWrite m) names d = same-objects (not-it (OfWrite m) names (λ is. absurd (cc))) (ap (λ (s : State Span). s.objects) d.2)
@@ -365,9 +367,9 @@ module _ (settings : Settings) (w : World) (command : Command) (made : ℕ) (rep
     on-target : (target : Target) → target_of command.action ≡ target → DoesBy k settings command target made (state_of w) reply s' → Remains
     on-target (NewHandle keeps_log) names d = new-objects (isnt-it (NewHandle keeps_log) names (λ is. absurd (cc))) _ d.objects
     on-target (NewSnapshot m) names d = samples m (slice_get w.objects m) (isnt-it (NewSnapshot m) names (λ is. absurd (cc))) d
-    on-target (NewFollower modes.FollowLatest managed skips) names d = new-objects (isnt-it (NewFollower modes.FollowLatest managed skips) names (λ is. absurd (cc))) _ (d.0).objects
-    on-target (NewFollower (modes.Checkpoint id) managed skips) names d = new-objects (isnt-it (NewFollower (modes.Checkpoint id) managed skips) names (λ is. absurd (cc))) _ (d.0).objects
-    on-target (NewFollower modes.ManagedCheckpoint managed skips) names d = new-objects (isnt-it (NewFollower modes.ManagedCheckpoint managed skips) names (λ is. absurd (cc))) _ d.objects
+    on-target (NewFollower modes.FollowLatest managed skips lag) names d = new-objects (isnt-it (NewFollower modes.FollowLatest managed skips lag) names (λ is. absurd (cc))) _ (d.0).objects
+    on-target (NewFollower (modes.Checkpoint id) managed skips lag) names d = new-objects (isnt-it (NewFollower (modes.Checkpoint id) managed skips lag) names (λ is. absurd (cc))) _ (d.0).objects
+    on-target (NewFollower modes.ManagedCheckpoint managed skips lag) names d = new-objects (isnt-it (NewFollower modes.ManagedCheckpoint managed skips lag) names (λ is. absurd (cc))) _ d.objects
     on-target (NewCheckpoint lifetime) names d = no-objects (isnt-it (NewCheckpoint lifetime) names (λ is. absurd (cc))) d.objects
     on-target WholeStore names d = no-objects (isnt-it WholeStore names (λ is. absurd (cc))) d.objects
     on-target (OfWrite m) names d = no-objects (isnt-it (OfWrite m) names (λ is. absurd (cc))) (ap (λ (s : State Span). s.objects) d.2)

@@ -33,7 +33,7 @@ use Rattle.slate_script.specs.declared.commands.Command.{Command}
 use Rattle.slate_script.specs.declared.replies.Reply.{Reply}
 use Rattle.slate_script.specs.declared.replies.Reply.TheVariants as replies
 use Rattle.slate_live.specs.Calls.{NewFollower, OfObject, Poll, call_of, target_of}
-use Rattle.slate_live.specs.Commands.{ActsOn, Adds, DoesBy, added, interval_of, lifetime_of}
+use Rattle.slate_live.specs.Commands.{ActsOn, Adds, DoesBy, added, interval_of, lag_of, lifetime_of}
 use Rattle.slate_live.specs.Followers.{PollsAs}
 use Rattle.slate_live.specs.Leases.{is_whole, polls}
 use Rattle.slate_live.specs.Replies.{followed_reply, polled_reply, refusal, reply_to}
@@ -70,7 +70,7 @@ module _ (settings : Settings) (w w' : World) (command : Command) (reply : Reply
       let same : q.latest ≡ h.has.latest = some-same q.latest h.has.latest (sym q.is_latest ∙ h.has.is) in
       let gives = subst (λ (v : VersionedManifest). to_keep h.follower.view h.lease command.moment v ≡ Ok (q.next, q.given)) same q.plan in
       let view = subst (λ (v : VersionedManifest). MatchBool (replaces h.follower.view h.lease command.moment v) (q.next ≡ Some f'.view) (f'.view ≡ h.follower.view)) same q.view in
-      polled-holds settings w w' command reply reached reached' next past n lifetime last h names f' at' p.answers.2 p.answers.0 made q.next q.given gives q.leased view (puts.2).part (after_is ∙ (puts.2).after)
+      polled-holds settings w w' command reply reached reached' next past n lifetime last h names f' at' p.answers.3 p.answers.0 made q.next q.given gives q.leased view (puts.2).part (after_is ∙ (puts.2).after)
 
   answered-holds : target_of command.action ≡ OfObject n → (f' : Follower) (answer : PollAnswer) → IsFollowerAt w'.objects n f' → KeepsLease k settings.extractor next.made h.lease command.moment h.follower (state_of w).store (Ok answer) f' (state_of w').store → Holds n lifetime command.moment w'
   answered-holds names f' answer at' p = round-holds names f' next.made answer (state_of w').store refl at' p
@@ -93,7 +93,7 @@ module _ (settings : Settings) (w w' : World) (command : Command) (reply : Reply
         | inl none ↦ round-holds names f' p.first p.answer p.between (both.there ∙ ap Some (sym (last_is ∙ none))) at' round
         | inr again ↦
             let gives = subst (λ v. to_refresh (p.given).id (p.given).lifetime command.moment v ≡ Ok (Some again.0, again.1)) view again.2 in
-            renewed-holds settings w w' command reply reached reached' next past n lifetime last h names f' at' round.answers.2 round.answers.0 p.given leased' written both.between put again.0 again.1 gives
+            renewed-holds settings w w' command reply reached reached' next past n lifetime last h names f' at' round.answers.3 round.answers.0 p.given leased' written both.between put again.0 again.1 gives
             (last_is ∙ again.3) (again.4 ∙ ap (λ (v : VersionedManifest). v.id + 1) view) (ap latest_manifest last_is ∙ again.5)
       ]
 
@@ -122,7 +122,7 @@ followed-number : (m n at : ℕ) (answer : PollAnswer) → followed_reply m answ
 followed-number m n at (Whole k) is = cc
 followed-number m n at (Truncated k) is = absurd (cc)
 
-module _ (settings : Settings) (w w' : World) (command : Command) (reply : Reply) (reached : IsReached w) (reached' : IsReached w') (next : NextWhole settings w command reply w') (managed : Option (ℕ × ℕ)) (skips : Bool) (n at : ℕ) (is : command.action ≡ actions.Follow modes.ManagedCheckpoint managed skips) (opened : reply ≡ replies.Follower n true at) (past : ArePast w) where
+module _ (settings : Settings) (w w' : World) (command : Command) (reply : Reply) (reached : IsReached w) (reached' : IsReached w') (next : NextWhole settings w command reply w') (managed : Option (ℕ × ℕ)) (skips : Bool) (lag : Option ℕ) (n at : ℕ) (is : command.action ≡ actions.Follow modes.ManagedCheckpoint managed skips lag) (opened : reply ≡ replies.Follower n true at) (past : ArePast w) where
   abbrev known : Knowledge Span
   known = by_catalogue w.stored w.catalogue
 
@@ -130,9 +130,9 @@ module _ (settings : Settings) (w w' : World) (command : Command) (reply : Reply
   lifetime = lifetime_of managed
 
   abbrev Opens : Result (Follower × PollAnswer) SlateError → Type 0
-  Opens r = OpensManaged known settings.extractor next.made lifetime (interval_of managed) skips command.moment (state_of w).store r (state_of w').store
+  Opens r = OpensManaged known settings.extractor next.made lifetime (interval_of managed) skips (lag_of lag) command.moment (state_of w).store r (state_of w').store
 
-  taken-holds : length w.objects ≡ n → (b : Follower × PollAnswer) → TakesLease known settings.extractor next.made lifetime skips command.moment (state_of w).store (Ok b) (state_of w').store → IsFollowerAt w'.objects n b.0 → Holds n (lifetime / 2) command.moment w'
+  taken-holds : length w.objects ≡ n → (b : Follower × PollAnswer) → TakesLease known settings.extractor next.made lifetime skips (lag_of lag) command.moment (state_of w).store (Ok b) (state_of w').store → IsFollowerAt w'.objects n b.0 → Holds n (lifetime / 2) command.moment w'
   taken-holds number b t at' =
       let puts = (t.puts).some w.catalogue refl in
       let q = ((t.takes).some w.catalogue refl).2 in
@@ -152,7 +152,7 @@ module _ (settings : Settings) (w w' : World) (command : Command) (reply : Reply
       record {
         follower = b.0;
         at = at';
-        live = t.answers.2;
+        live = t.answers.3;
         managed = t.answers.0;
         lease = q.given;
         leased = q.leased;
@@ -174,12 +174,12 @@ module _ (settings : Settings) (w w' : World) (command : Command) (reply : Reply
       }
     where
       added-alone : (m : ℕ) → Names settings w w' command reply reached reached' next past m → m ≡ n
-      added-alone m (inl other) = absurd (let both : OfObject m ≡ NewFollower modes.ManagedCheckpoint managed skips = sym other ∙ ap target_of is in cc)
+      added-alone m (inl other) = absurd (let both : OfObject m ≡ NewFollower modes.ManagedCheckpoint managed skips lag = sym other ∙ ap target_of is in cc)
       added-alone m (inr added) = added.0 ∙ number
 
   pub opening-holds : Holds n (lifetime / 2) command.moment w'
   opening-holds = by d.result d.replied d.does d.objects where
-    d : Adds (OpensManaged known settings.extractor next.made lifetime (interval_of managed) skips command.moment) (λ (b : Follower × PollAnswer). AFollower b.0) (λ n (b : Follower × PollAnswer). followed_reply n b.1) (state_of w) reply (state_of w')
+    d : Adds (OpensManaged known settings.extractor next.made lifetime (interval_of managed) skips (lag_of lag) command.moment) (λ (b : Follower × PollAnswer). AFollower b.0) (λ n (b : Follower × PollAnswer). followed_reply n b.1) (state_of w) reply (state_of w')
     d = subst (λ t. DoesBy known settings command t next.made (state_of w) reply (state_of w')) (ap target_of is) next.does
 
     by : (r : Result (Follower × PollAnswer) SlateError) → reply ≡ reply_to (λ (b : Follower × PollAnswer). followed_reply (length w.objects) b.1) r → Opens r → w'.objects ≡ w.objects ++ added (λ (b : Follower × PollAnswer). AFollower b.0) r → Holds n (lifetime / 2) command.moment w'

@@ -1,19 +1,19 @@
 -- What holds of a begun poll whatever its stage holds after each of its calls.
-use Rattle.std.proofs.Common.{◌≡◌, ◌+◌, ◌==◌, ◌&&◌, max, not, ℕ, ℤ, Bool, true, false, if◌then◌else◌, List, Option, Some, None, Ok, Err, refl, sym, subst, inl, inr}
-use Rattle.std.specs.Prelude.{nat_lt}
+use Rattle.std.proofs.Common.{◌≡◌, ◌+◌, ◌-◌, ◌==◌, ◌&&◌, max, not, ℕ, ℤ, Bool, true, false, if◌then◌else◌, List, Option, Some, None, Ok, Err, refl, sym, subst, inl, inr}
+use Rattle.std.specs.Prelude.{◌||◌, nat_lt}
 use Rattle.slate_store.specs.Checkpoints.{Plan, found, to_refresh, to_write}
-use Rattle.slate_store.specs.Objects.{Objects, PutManifest, changed, is_present, last_log, latest_manifest}
+use Rattle.slate_store.specs.Objects.{Objects, PutManifest, changed, is_present, last_log, latest_manifest, log_at}
 use Rattle.slate_store.specs.declared.objects.Checkpoint.{Checkpoint}
 use Rattle.slate_store.specs.declared.objects.VersionedManifest.{VersionedManifest}
 use Rattle.slate_types.specs.declared.batches.Batch.{Batch}
 use Rattle.slate_errors.specs.declared.errors.SlateError.TheVariants as errors
-use Rattle.slate_model.specs.Begun.{Begun, Breaks, Ends, Ended, Fails, Goes, Puts, AsksLast, ReadsAgain, ReadsLatest, ReadsLog, Stage, Turn, asked_last, asked_lease, begun_at, committed, decided, emptied, kept_lease, leads_on, noted, put_by, replayed, replaying, with_latest, with_log}
+use Rattle.slate_model.specs.Begun.{Begun, Breaks, Ends, Ended, Fails, Goes, Puts, AsksLast, LooksAt, ReadsAgain, ReadsLatest, ReadsLog, Stage, Turn, asked_last, asked_lease, begun_at, committed, decided, emptied, first_log, greatest_number, kept_lease, leads_on, noted, put_by, reached_number, replayed, replaying, with_latest, with_log}
 use Rattle.slate_model.specs.declared.polls.PollHistory.{PollHistory}
 use Rattle.slate_model.specs.Follower.{Follower}
 use Rattle.slate_model.specs.Lease.{differs, is_due, leased}
 use Rattle.slate_model.specs.declared.leases.Lease.{Lease}
 use Rattle.slate_replay.specs.declared.replays.Replayed.TheVariants as replays
-use Rattle.slate_follow.specs.Stepping.{MeetsAt}
+use Rattle.slate_follow.specs.Stepping.{LooksTo, MeetsAt}
 
 -- what holds of the poll that a turn leaves
 abbrev pub OfTurn : (Begun → Type 0) → Turn → Type 0
@@ -73,12 +73,22 @@ module _ (reader : Follower) (P : Begun → Type 0) (l : IsLasting reader P) whe
   committed-turn next given true begun viewed read = replaying-turn next (record begun { view = Some next; latest = Some next; lease = Some given }) viewed
   committed-turn next given false begun viewed read = l.staged (record begun { latest = Some next; lease = Some given }) Ended read
 
-  asked-last-turn : (last : ℕ) (begun : Begun) → P begun → P (asked_last last begun)
+  asked-last-turn : (last : ℕ) (begun : Begun) → P begun → P (asked_last reader last begun)
   asked-last-turn last begun has = by (nat_lt begun.mark last)
     where
-      by : (more : Bool) → P (if more then record begun { stage = ReadsLog last; history = with_log last begun.history } else record begun { stage = ReadsAgain })
-      by true = l.staged (record begun { history = with_log last begun.history }) (ReadsLog last) (l.remembers begun (with_log last begun.history) has)
+      by : (more : Bool) → P (if more then record begun { stage = first_log reader last; history = with_log last begun.history } else record begun { stage = ReadsAgain })
+      by true = l.staged (record begun { history = with_log last begun.history }) (first_log reader last) (l.remembers begun (with_log last begun.history) has)
       by false = l.staged begun ReadsAgain has
+
+  looks-turn : (latest : VersionedManifest) (id last : ℕ) (begun : Begun) (log : Option (List Batch)) (turn : Turn) → P begun → LooksTo reader latest id last begun log turn → OfTurn P turn
+  looks-turn latest id last begun None turn has turn_is = subst (OfTurn P) (sym turn_is) (l.staged begun Ended has)
+  looks-turn latest id last begun (Some batches) turn has turn_is =
+      let newest = greatest_number batches in
+      let waits = nat_lt (reached_number begun) newest || id == begun.mark + 1 in
+      let back : Turn = Goes (record begun { stage = LooksAt (id - 1) last }) in
+      subst (OfTurn P) (sym turn_is)
+      (if-turn (nat_lt (reached_number begun + reader.lag) newest) (Goes (record begun { stage = ReadsLog last })) (if waits then replayed latest begun else back) (l.staged begun (ReadsLog last) has)
+      (if-turn waits (replayed latest begun) back (asked-turn latest begun.lease begun has) (l.staged begun (LooksAt (id - 1) last) has)))
 
   -- so it holds after a call, where it does by a manifest that is read, or put, and where the poll begins anew
   pub meets-turn : (stage : Stage) (begun : Begun) (o o' : Objects) (turn : Turn) → P begun → P (begun_at begun.moment (begun.overtaken + 1) begun.history reader) →
@@ -97,6 +107,7 @@ module _ (reader : Follower) (P : Begun → Type 0) (l : IsLasting reader P) whe
   meets-turn (Puts next given replaces) begun o o' turn has anew reads puts (inr (there, turn_is, same)) =
       subst (OfTurn P) (sym turn_is) (if-turn (begun.overtaken == 7) (Fails (errors.TransactionalObjectTimeout 8)) (Goes (begun_at begun.moment (begun.overtaken + 1) begun.history reader)) tt anew)
   meets-turn AsksLast begun o o' turn has anew reads puts (turn_is, same) = subst (OfTurn P) (sym turn_is) (asked-last-turn (last_log begun.mark o) begun has)
+  meets-turn (LooksAt id last) begun o o' turn has anew reads puts (latest, read, looks, same) = looks-turn latest id last begun (log_at id o) turn has looks
   meets-turn (ReadsLog last) begun o o' turn has anew reads puts (latest, fresh, replays.Whole, read, n, turn_is, same) =
       let next = record begun { fresh = fresh; mark = begun.mark + 1 } in
       let now = l.marked (record begun { fresh = fresh }) (begun.mark + 1) (l.fresh begun fresh has) in

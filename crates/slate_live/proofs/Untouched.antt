@@ -111,9 +111,9 @@ module _ (settings : Settings) (w : World) (command : Command) (made : ℕ) (rep
   stays-by : (target : Target) → target_of command.action ≡ target → DoesBy k settings command target made (state_of w) reply s' → Stays
   stays-by (NewHandle keeps_log) names d = more-objects _ d.objects
   stays-by (NewSnapshot m) names d = sampled-stays m (slice_get w.objects m) d
-  stays-by (NewFollower modes.FollowLatest managed skips) names d = more-objects _ (d.0).objects
-  stays-by (NewFollower (modes.Checkpoint id) managed skips) names d = more-objects _ (d.0).objects
-  stays-by (NewFollower modes.ManagedCheckpoint managed skips) names d = more-objects _ d.objects
+  stays-by (NewFollower modes.FollowLatest managed skips lag) names d = more-objects _ (d.0).objects
+  stays-by (NewFollower (modes.Checkpoint id) managed skips lag) names d = more-objects _ (d.0).objects
+  stays-by (NewFollower modes.ManagedCheckpoint managed skips lag) names d = more-objects _ d.objects
   stays-by (NewCheckpoint lifetime) names d = same-objects d.objects
   stays-by WholeStore names d = same-objects d.objects
   stays-by (OfWrite m) names d = same-state d.2
@@ -128,7 +128,7 @@ is-quiet n (actions.Poll m) unpolled unclosed names changes = let same : m ≡ n
 is-quiet n (actions.Close m options) unpolled unclosed names changes = let same : m ≡ n = cc in let it = eq-eqb m n same in absurd (cc)
 is-quiet n (actions.Open wal) unpolled unclosed names changes = changes
 is-quiet n (actions.Snapshot m) unpolled unclosed names changes = changes
-is-quiet n (actions.Follow mode managed skip) unpolled unclosed names changes = changes
+is-quiet n (actions.Follow mode managed skip lag) unpolled unclosed names changes = changes
 is-quiet n (actions.Checkpoint lifetime) unpolled unclosed names changes = changes
 is-quiet n actions.Sweep unpolled unclosed names changes = changes
 is-quiet n (actions.Await m) unpolled unclosed names changes = changes
@@ -154,7 +154,7 @@ undropped n (actions.Poll m) never = (never, refl)
 undropped n (actions.Close m options) never = (refl, never)
 undropped n (actions.Open wal) never = (refl, refl)
 undropped n (actions.Snapshot m) never = (refl, refl)
-undropped n (actions.Follow mode managed skip) never = (refl, refl)
+undropped n (actions.Follow mode managed skip lag) never = (refl, refl)
 undropped n (actions.Checkpoint lifetime) never = (refl, refl)
 undropped n actions.Sweep never = (refl, refl)
 undropped n (actions.Await m) never = (refl, refl)

@@ -181,10 +181,10 @@ module _ (settings : Settings) (w w' : World) (command : Command) (reply : Reply
         snapshot = λ snapshot. tt;
         follower = λ n f f' at names a. follower-views n f f' at a;
         opened = λ keeps_log h d. tt;
-        followed = λ mode skips b d replays.
+        followed = λ mode skips lag b d replays.
             let mine = mine-replays mode skips b.0 (d.answer).0 (d.answer).1 replays in
             opened-views mode skips b.0.view b.0.view mine (d.segmented w.catalogue w.stored refl refl tt) (latest-view mode true w.catalogue b.0.view (free-of mode skips mine) (d.can w.catalogue refl)) refl;
-        taken = λ lifetime skips b t replays.
+        taken = λ lifetime skips lag b t replays.
             let mine = mine-replays modes.ManagedCheckpoint skips b.0 (t.answers).0 (t.answers).1 replays in
             let q = ((t.takes).some w.catalogue refl).2 in
             let latest = q.plan.0 in

@@ -19,18 +19,20 @@ use Rattle.slate_model.specs.Followed.{followed_logs}
 use Rattle.slate_model.specs.Follower.{is_managed}
 use Rattle.slate_model.specs.Object.{Object, Handle, Snapshot, Follower, tables_of}
 use Rattle.slate_model.specs.Open.{replayed_logs}
+use Rattle.slate_follow.specs.Lagging.{readings}
 use Rattle.slate_script.specs.declared.commands.Action.{Action}
 use Rattle.slate_script.specs.declared.commands.Action.TheVariants as actions
 use Rattle.slate_script.specs.declared.commands.Command.{Command}
 use Rattle.slate_live.specs.State.{IsBegunAt}
 
 -- Where a command goes: it opens a handle, which keeps a log or not, a snapshot of the handle with a number, or a follower in
--- a mode, which skips log files or not, and has a lifetime and an interval where it keeps a checkpoint; it commits a checkpoint of the store, with a lifetime or without an end, sweeps the
--- store, asks for the write with a number, or names the object with one.
+-- a mode, which skips log files or not, may lag by so many numbers, and has a lifetime and an interval where it keeps a checkpoint; it
+-- commits a checkpoint of the store, with a lifetime or without an end, sweeps the store, asks for the write with a number, or names the
+-- object with one.
 pub data Target : Type 0 where
   NewHandle : (keeps_log : Bool) → Target
   NewSnapshot : (handle : ℕ) → Target
-  NewFollower : (mode : DbReaderMode) → (managed : Option (ℕ × ℕ)) → (skips : Bool) → Target
+  NewFollower : (mode : DbReaderMode) → (managed : Option (ℕ × ℕ)) → (skips : Bool) → (lag : Option ℕ) → Target
   NewCheckpoint : (lifetime : Option ℕ) → Target
   WholeStore : Target
   OfWrite : (n : ℕ) → Target
@@ -39,7 +41,7 @@ pub data Target : Type 0 where
 abbrev pub target_of : Action → Target
 target_of (actions.Open wal) = NewHandle wal
 target_of (actions.Snapshot n) = NewSnapshot n
-target_of (actions.Follow mode managed skip) = NewFollower mode managed skip
+target_of (actions.Follow mode managed skip lag) = NewFollower mode managed skip lag
 target_of (actions.Checkpoint lifetime) = NewCheckpoint lifetime
 target_of actions.Sweep = WholeStore
 target_of (actions.Await n) = OfWrite n
@@ -162,7 +164,7 @@ goes_by_operator action = false
 -- whether it goes by the prefix extractor: it opens a handle or a reader, writes, or polls
 abbrev pub goes_by_extractor : Action → Bool
 goes_by_extractor (actions.Open wal) = true
-goes_by_extractor (actions.Follow mode managed skip) = true
+goes_by_extractor (actions.Follow mode managed skip lag) = true
 goes_by_extractor (actions.Put n key value expire) = true
 goes_by_extractor (actions.Merge n key value expire) = true
 goes_by_extractor (actions.Delete n key) = true
@@ -219,11 +221,11 @@ abbrev pub table_count : Option Object → ℕ
 table_count None = 0
 table_count (Some object) = length (tables_of object)
 
--- how often a poll of a reader calls a store at most that holds these objects: one that keeps a checkpoint puts a manifest, too,
--- in eight tries at most, of which the last one may read the log files twice
-abbrev pub poll_calls : (managed : Bool) → Objects → ℕ
-poll_calls true objects = 9 * (replayed_logs objects + 3)
-poll_calls false objects = replayed_logs objects + 2
+-- how often a poll of a reader calls a store at most that holds these objects: one that may lag reads log files twice, and one that keeps a
+-- checkpoint puts a manifest, too, in eight tries at most, of which the last one may do so twice
+abbrev pub poll_calls : (managed : Bool) → (lag : ℕ) → Objects → ℕ
+poll_calls true lag objects = 9 * (readings lag (replayed_logs objects) + 3)
+poll_calls false lag objects = readings lag (replayed_logs objects) + 2
 
 -- and a close: that of a handle flushes, and that of a reader takes out the checkpoint that it keeps, in eight tries at most
 abbrev pub end_calls : (managed : Bool) → ℕ
@@ -231,7 +233,7 @@ end_calls true = 16
 end_calls false = 0
 
 abbrev pub polled_calls : Objects → Option Object → ℕ
-polled_calls objects (Some (Follower follower)) = poll_calls (is_managed follower.mode) objects
+polled_calls objects (Some (Follower follower)) = poll_calls (is_managed follower.mode) follower.lag objects
 polled_calls objects object = 0
 
 abbrev pub closed_calls : Option Object → ℕ
@@ -260,7 +262,7 @@ follow_calls mode skips objects = followed_logs mode skips objects + 2
 abbrev pub most_made : Objects → Option Object → ℤ → Target → Call → ℕ
 most_made objects object moment (NewHandle keeps_log) call = replayed_logs objects + 5
 most_made objects object moment (NewSnapshot n) call = 0
-most_made objects object moment (NewFollower mode managed skips) call = follow_calls mode skips objects
+most_made objects object moment (NewFollower mode managed skips lag) call = follow_calls mode skips objects
 most_made objects object moment (NewCheckpoint lifetime) call = 16
 most_made objects object moment WholeStore call = sweep_calls moment objects
 most_made objects object moment (OfWrite n) call = 0

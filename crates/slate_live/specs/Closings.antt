@@ -20,13 +20,13 @@ use Rattle.slate_live.specs.World.{World}
 -- whether a command opened a handle or a reader, and was answered this number of it
 abbrev pub opens : ℕ → Action → Reply → Bool
 opens n (actions.Open wal) (replies.Handle m) = m == n
-opens n (actions.Follow mode managed skips) (replies.Follower m whole at) = m == n
+opens n (actions.Follow mode managed skips lag) (replies.Follower m whole at) = m == n
 opens n action reply = false
 
 -- the tasks that are registered by an opening
 abbrev pub registered : Options → Action → List TaskName
 registered options (actions.Open wal) = option_tasks options
-registered options (actions.Follow mode managed skips) = follower_tasks mode
+registered options (actions.Follow mode managed skips lag) = follower_tasks mode
 registered options action = []
 
 -- The first close of a handle or a reader lists the tasks that its opening registered, in their order, and each later one lists

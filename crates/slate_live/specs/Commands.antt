@@ -3,7 +3,7 @@
 use Rattle.std.specs.Prelude.{◌≡◌, ℕ, ℤ, Bool, List, [], ◌∷◌, ◌++◌, length, slice_get, slice_set, Option, Some, None, Result, Ok, Err, true}
 use Rattle.slate_store.specs.declared.reader_modes.DbReaderMode.{DbReaderMode}
 use Rattle.slate_errors.specs.declared.errors.SlateError.{SlateError}
-use Rattle.slate_model.specs.Follow.{Rebuilds, unseen}
+use Rattle.slate_model.specs.Follow.{Rebuilds, SeesOwed, unseen}
 use Rattle.slate_model.specs.Knowledge.{Knowledge}
 use Rattle.slate_model.specs.Managed.{OpensManaged}
 use Rattle.slate_store.specs.declared.reader_modes.DbReaderMode.TheVariants.{ManagedCheckpoint}
@@ -98,22 +98,27 @@ abbrev pub interval_of : Option (ℕ × ℕ) → ℕ
 interval_of None = 10000
 interval_of (Some given) = given.1
 
+-- by how many numbers the polls of a reader may leave it behind what is stored: by none, where a command names none
+abbrev pub lag_of : Option ℕ → ℕ
+lag_of None = 0
+lag_of (Some lag) = lag
+
 module _ {L : Type 0} (k : Knowledge L) (settings : Settings) where
   abbrev pub OpensHandleIn : Bool → ℕ → State L → Reply → State L → Type 0
   OpensHandleIn keeps_log made s reply s' =
       Adds (OpensHandle k settings.extractor made keeps_log settings.options.max_unflushed_bytes (option_tasks settings.options)) Handle (λ n _. replies.Handle n) s reply s'
 
-  abbrev pub OpensFollowerIn : DbReaderMode → (managed : Option (ℕ × ℕ)) → (skips : Bool) → ℤ → ℕ → State L → Reply → State L → Type 0
-  OpensFollowerIn ManagedCheckpoint managed skips moment made s reply s' =
-      Adds (OpensManaged k settings.extractor made (lifetime_of managed) (interval_of managed) skips moment) (λ b. Follower b.0) (λ n b. followed_reply n b.1) s reply s'
-  OpensFollowerIn mode managed skips moment made s reply s' =
-      Adds (Rebuilds k settings.extractor mode skips true unseen) (λ b. Follower b.0) (λ n b. followed_reply n b.1) s reply s' × (made ≡ 0)
+  abbrev pub OpensFollowerIn : DbReaderMode → (managed : Option (ℕ × ℕ)) → (skips : Bool) → (lag : ℕ) → ℤ → ℕ → State L → Reply → State L → Type 0
+  OpensFollowerIn ManagedCheckpoint managed skips lag moment made s reply s' =
+      Adds (OpensManaged k settings.extractor made (lifetime_of managed) (interval_of managed) skips lag moment) (λ b. Follower b.0) (λ n b. followed_reply n b.1) s reply s'
+  OpensFollowerIn mode managed skips lag moment made s reply s' =
+      Adds (Rebuilds k settings.extractor mode skips true lag (SeesOwed k mode skips lag) unseen) (λ b. Follower b.0) (λ n b. followed_reply n b.1) s reply s' × (made ≡ 0)
 
   -- what a command does, by where it goes; so many of its changes were made
   abbrev pub DoesBy : Command → Target → ℕ → State L → Reply → State L → Type 0
   DoesBy command (NewHandle keeps_log) made s reply s' = OpensHandleIn keeps_log made s reply s'
   DoesBy command (NewSnapshot n) made s reply s' = OpensSnapshot n made (slice_get s.objects n) s reply s'
-  DoesBy command (NewFollower mode managed skips) made s reply s' = OpensFollowerIn mode managed skips command.moment made s reply s'
+  DoesBy command (NewFollower mode managed skips lag) made s reply s' = OpensFollowerIn mode managed skips (lag_of lag) command.moment made s reply s'
   DoesBy command (NewCheckpoint lifetime) made s reply s' = DoesToStore (CommitsTo k made lifetime command.moment) s reply s'
   DoesBy command WholeStore made s reply s' = DoesToStore (SweepsTo k made command.moment) s reply s'
   DoesBy command (OfWrite n) made s reply s' = OnlyAnswers (write_reply s.objects (slice_get s.writes n)) made s reply s'

@@ -88,8 +88,8 @@ pub record KeepsCheckpoint (n : ℕ) (moment : ℤ) (w : World) : Type 0 where
 -- and where it is a read of the reader, at any moment, it finds no table missing. Polls of other readers may be made by single calls.
 abbrev pub LeasesHold : List Step → Type 0
 LeasesHold steps =
-    (before later rest : List Step) (opened step : Step) (n at : ℕ) (managed : Option (ℕ × ℕ)) (skips : Bool) → steps ≡ before ++ opened ∷ (later ++ step ∷ rest) →
-    opened.command.action ≡ actions.Follow ManagedCheckpoint managed skips → opened.reply ≡ replies.Follower n true at →
+    (before later rest : List Step) (opened step : Step) (n at : ℕ) (managed : Option (ℕ × ℕ)) (skips : Bool) (lag : Option ℕ) → steps ≡ before ++ opened ∷ (later ++ step ∷ rest) →
+    opened.command.action ≡ actions.Follow ManagedCheckpoint managed skips lag → opened.reply ≡ replies.Follower n true at →
     AreInTime n (lifetime_of managed / 2) opened.command.moment later →
     (IsInTime (lifetime_of managed / 2) (last_turn n opened.command.moment later) step → KeepsCheckpoint n step.command.moment (last_world opened.world later))
     × (reads n step.command.action ≡ true → step.reply ≡ refusal (errors.ObjectStoreError NotFound) → ⊥)

@@ -1,5 +1,5 @@
 -- What a command may answer from a world, and which world it leads to.
-use Rattle.std.specs.Prelude.{◌≡◌, ◌≢◌, ◌⊎◌, ◌≤◌, ℕ, List, map, slice_get, slice_set, Option, Some, None, Err, ◌||◌, if◌then◌else◌, is_none}
+use Rattle.std.specs.Prelude.{◌≡◌, ◌≢◌, ◌⊎◌, ◌+◌, ◌≤◌, ℕ, List, map, max, nat_lt, slice_get, slice_set, Option, Some, None, Err, ◌||◌, if◌then◌else◌, is_none}
 use Rattle.slate_types.specs.declared.batches.Batch.{Batch}
 use Rattle.slate_store.specs.Checkpoints.{checkpoint_id, found}
 use Rattle.slate_store.specs.Objects.{Objects, entry_at, latest_manifest}
@@ -39,11 +39,22 @@ abbrev pub tabled_number : Option VersionedManifest → ℕ
 tabled_number None = 0
 tabled_number (Some latest) = latest.manifest.last_l0_seq
 
--- What a reader is owed in a world: at a checkpoint what it sees; where it skips log files, what is in the latest manifest's tables;
+-- What there is for a reader in a world: at a checkpoint what it sees; where it skips log files, what is in the latest manifest's tables;
 -- and else all that is stored.
-abbrev pub owed_now : World → Follower → ℕ
-owed_now w reader =
+abbrev pub most_now : World → Follower → ℕ
+most_now w reader =
     if is_pinned reader.mode then number reader else (if reader.skips then tabled_number (latest_manifest w.catalogue) else end w.stored)
+
+-- what one that may lag so far is owed of what is stored up to a number, by what it has: all, where it would be further behind
+abbrev pub owed_past : (lag reached stored : ℕ) → ℕ
+owed_past lag reached stored = if nat_lt (reached + lag) stored then stored else reached
+
+-- What a reader is owed in a world is as much; but of all that is stored only where what it has, with the latest manifest's tables, leaves
+-- it further behind that than it may be, and else no more than it has so.
+abbrev pub owed_now : World → Follower → ℕ
+owed_now w reader = let tabled = tabled_number (latest_manifest w.catalogue) in
+    if is_pinned reader.mode then number reader
+    else (if reader.skips then tabled else owed_past reader.lag (max (number reader) tabled) (end w.stored))
 
 -- and at the first step of its begun poll, once that is made; a reader at a checkpoint makes no other
 abbrev pub owed_first : World → ℕ → Follower → Begun → ℕ

@@ -17,10 +17,11 @@ pub record HandleRises (old new : AHandle) : Type 0 where
   pub epoch : new.epoch ≡ old.epoch
   pub result : StaysClosed old.result new.result
 
--- a follower's number doesn't fall, and it stays in its mode
+-- a follower's number doesn't fall, and it stays in its mode and may lag as before
 pub record FollowerRises (old new : AFollower) : Type 0 where
   pub mode : new.mode ≡ old.mode
   pub skips : new.skips ≡ old.skips
+  pub lag : new.lag ≡ old.lag
   pub number : number old ≤ number new
   pub result : StaysClosed old.result new.result
 

@@ -4,7 +4,7 @@ use Rattle.slate_types.specs.Line.{AreNumberedFrom, Line, end}
 use Rattle.slate_store.specs.Checkpoints.{to_refresh, to_write}
 use Rattle.slate_store.specs.declared.objects.VersionedManifest.{VersionedManifest}
 use Rattle.slate_store.specs.Objects.{Objects}
-use Rattle.slate_model.specs.Begun.{AsksLast, Begun, Puts, ReadsAgain, ReadsLatest, ReadsLog, Stage, base_of, begun_at, reached_number, view_of}
+use Rattle.slate_model.specs.Begun.{AsksLast, Begun, LooksAt, Puts, ReadsAgain, ReadsLatest, ReadsLog, Stage, base_of, begun_at, reached_number, view_of}
 use Rattle.slate_model.specs.declared.leases.Lease.{Lease}
 use Rattle.slate_model.specs.Follower.{Follower, kept_follower, number}
 use Rattle.slate_model.specs.Lease.{leased}
@@ -45,11 +45,12 @@ abbrev pub PlansFor : Lease → (replaces : Bool) → (last next : VersionedMani
 PlansFor lease true last next given = (moment : ℤ) × (leased lease.lifetime (to_write (Some lease.id) (Some lease.lifetime) moment last) ≡ Ok (Some next, given))
 PlansFor lease false last next given = (moment : ℤ) × (leased lease.lifetime (to_refresh lease.id lease.lifetime moment last) ≡ Ok (Some next, given))
 
--- What it puts next is planned for its lease after the manifest that it read or put last; one that reads log files is of a reader that
--- doesn't skip them.
+-- What it puts next is planned for its lease after the manifest that it read or put last; one that reads or looks at log files is of a
+-- reader that doesn't skip them.
 abbrev pub IsStaged : Follower → Begun → Stage → Type 0
 IsStaged reader begun (Puts next given replaces) = (last : VersionedManifest) × (begun.latest ≡ Some last) × (lease : Lease) × (begun.lease ≡ Some lease) × PlansFor lease replaces last next given
 IsStaged reader begun AsksLast = reader.skips ≡ false
+IsStaged reader begun (LooksAt id last) = reader.skips ≡ false
 IsStaged reader begun (ReadsLog last) = reader.skips ≡ false
 IsStaged reader begun ReadsAgain = reader.skips ≡ false
 IsStaged reader begun stage = Unit {0}

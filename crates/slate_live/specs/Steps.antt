@@ -1,5 +1,5 @@
 -- A run, step by step, and what holds over all of it.
-use Rattle.std.specs.Prelude.{◌≡◌, ℕ, ◌<◌, ◌≤◌, true, List, [], ◌∷◌, ◌++◌, slice_get, Some}
+use Rattle.std.specs.Prelude.{◌≡◌, ℕ, ◌+◌, ◌<◌, ◌≤◌, true, List, [], ◌∷◌, ◌++◌, slice_get, Some}
 use Rattle.slate_types.specs.declared.batches.Batch.{Batch}
 use Rattle.slate_model.specs.Follower.{Follower}
 use Rattle.slate_script.specs.declared.commands.Action.TheVariants as actions
@@ -44,10 +44,10 @@ StayConfirmed steps =
     (i n : ℕ) (reported : Step) → slice_get steps i ≡ Some reported → reported.command.action ≡ actions.Await n → reported.reply ≡ replies.Durable → StaysConfirmed steps i n reported
 
 -- What is stored when a poll of a reader is begun by single calls of the store is seen by the step that answers that it read all,
--- whatever commands come between: one of all that is stored answers a number at or above that of each batch.
+-- whatever commands come between: one of all that is stored answers a number no further below that of a batch than it may lag.
 abbrev pub PollsSee : List Step → Type 0
 PollsSee steps =
     (before between rest : List Step) (begin step : Step) (n at : ℕ) (batch : Batch) → steps ≡ before ++ begin ∷ (between ++ step ∷ rest) →
     begin.command.action ≡ actions.Begin n → begin.reply ≡ replies.Begun → StandsIn batch begin.world.stored →
     step.command.action ≡ actions.Step n → step.reply ≡ replies.Polled true at →
-    (reader : Follower) → IsFollowerAt step.world.objects n reader → follows_all reader.mode reader.skips ≡ true → batch.number ≤ at
+    (reader : Follower) → IsFollowerAt step.world.objects n reader → follows_all reader.mode reader.skips ≡ true → batch.number ≤ at + reader.lag

@@ -228,7 +228,7 @@ IsDurable w (Some write) = AtHandle w write.handle (λ handle. write.number ≤ 
 abbrev pub IsValidAt : Settings → World → ℤ → Option ℤ → Call → Target → Type 0
 IsValidAt settings w moment second call (NewHandle keeps_log) = CanOpen settings.extractor w
 IsValidAt settings w moment second call (NewSnapshot n) = AtHandle w n (λ handle. handle.result ≡ None)
-IsValidAt settings w moment second call (NewFollower mode managed skips) = CanOpenFollower settings.extractor mode managed skips w moment
+IsValidAt settings w moment second call (NewFollower mode managed skips lag) = CanOpenFollower settings.extractor mode managed skips w moment
 IsValidAt settings w moment second call (NewCheckpoint lifetime) = CanCheckpoint w
 IsValidAt settings w moment second call WholeStore = CanSweep w moment
 IsValidAt settings w moment second call (OfWrite n) = IsDurable w (slice_get w.writes n)

@@ -129,7 +129,7 @@ fn seek<S: Store, M: MergeOperator>(
     rows_reply(rows_with_seek(alloc, scan, take, key, range))
 }
 
-/// Lets a reader see all that is stored.
+/// Lets a reader see what is stored, up to what it may lag.
 fn poll<S: Store, E: PrefixExtractor>(
     follower: &mut FollowerState,
     alloc: Global,
@@ -138,7 +138,7 @@ fn poll<S: Store, E: PrefixExtractor>(
     moment: i64,
 ) -> Reply
     ensures faults { S.faults store.old ≤ S.faults store.new }
-    ensures calls { IfSome (S.objects store.old) (λ o. S.calls store.new ≤ S.calls store.old + poll_calls (is_managed follower.old.mode) o) }
+    ensures calls { IfSome (S.objects store.old) (λ o. S.calls store.new ≤ S.calls store.old + poll_calls (is_managed follower.old.mode) follower.old.lag o) }
     ensures untouched { (follower.old.result ≡ None → ⊥) → store.new ≡ store.old }
     ensures does { (x : Option Extractor) → (follower.old.result ≡ None → IsExtractor E.may_name E.may_extract (option_copied extractor.entry) x) →
         (made : ℕ) × PollsFollower (by_objects (S.objects store.old)) x made moment follower.old (known S.objects S.faults store.old) result follower.new (known S.objects S.faults store.new) }

@@ -20,9 +20,8 @@ use std::alloc::Global;
 /// Over any store each command is answered once, in order, and does what `apply` says of it.
 ///
 /// Over an honest store, with a lawful operator and extractor or without, the commands lead through worlds, one link for
-/// each command with its reply, from the world of the store as it was to one that the store holds afterwards. Of the
-/// operator that is asked only where a command merges or reads, and of the extractor only where one opens, writes, polls
-/// or makes a step. Where memory runs out before the first command, nothing was done; a command that finds no memory has
+/// each command with its reply, from the world of the store as it was to one that the store holds afterwards. An operator
+/// need be lawful only where a command merges or reads, an extractor only where one opens, writes, polls or makes a step. Where memory runs out before the first command, nothing was done; a command that finds no memory has
 /// a reply of its own. It takes room for all replies first, and then the time of each command.
 pub fn run<S: Store, M: MergeOperator, E: PrefixExtractor>(
     alloc: Global,

@@ -9,7 +9,7 @@ ghost use Rattle.slate_model.specs.Open.{replayed_logs};
 ghost use Rattle.slate_model.specs.Stores.{by_objects};
 ghost use Rattle.slate_live.specs.Shut.{IsShutAt};
 ghost use Rattle.slate_live.specs.Calls.{ArePolls, HaveSamePolls, OfObject, Whole, asks_extractor, asks_operator, call_of, follow_calls, kind_of, most_asked, most_calls, named, read_by, target_of};
-ghost use Rattle.slate_live.specs.Commands.{ActsOn, Does, interval_of, lifetime_of, OpensFollowerIn, OpensHandleIn, OpensSnapshot, ReadsSnapshot, write_reply};
+ghost use Rattle.slate_live.specs.Commands.{ActsOn, Does, interval_of, lag_of, lifetime_of, OpensFollowerIn, OpensHandleIn, OpensSnapshot, ReadsSnapshot, write_reply};
 ghost use Rattle.slate_live.specs.Sampling.{Pushes};
 ghost use Rattle.slate_live.specs.Replies.{followed_reply};
 ghost use Rattle.slate_live.specs.Publishing.{reader_of, seen_at};
@@ -168,8 +168,9 @@ impl LiveState {
                 mode,
                 managed,
                 skip,
+                lag,
             } => {
-                let options = reader_options(*managed, *skip);
+                let options = reader_options(*managed, *skip, *lag);
                 self.follow(alloc, store, *mode, &options, command.moment, extractor)
             }
             Action::Checkpoint { lifetime } => checkpoint(alloc, store, *lifetime, command.moment),
@@ -327,7 +328,7 @@ impl LiveState {
         ensures calls { IfSome (S.objects store.old) (λ o. S.calls store.new ≤ S.calls store.old + follow_calls mode options.now.skip_wal_replay o) }
         ensures polls { HaveSamePolls self.old.polls self.new.polls }
         ensures does { (settings : Settings) (managed : Option (ℕ × ℕ)) → IsExtractor E.may_name E.may_extract (option_copied extractor.entry) settings.extractor → options.now.checkpoint_lifetime_ms ≡ lifetime_of managed → options.now.manifest_poll_interval_ms ≡ interval_of managed →
-            (made : ℕ) × OpensFollowerIn (by_objects (S.objects store.old)) settings mode managed options.now.skip_wal_replay moment made
+            (made : ℕ) × OpensFollowerIn (by_objects (S.objects store.old)) settings mode managed options.now.skip_wal_replay options.now.max_lag moment made
             (running self.old (known S.objects S.faults store.old)) result (running self.new (known S.objects S.faults store.new)) }
     {
         let object = self.objects.len() as u64;
@@ -424,11 +425,13 @@ impl LiveState {
     }
 }
 
-/// The options of a reader: the lifetime of its checkpoint and the interval of its polls, where they are given.
-fn reader_options(managed: Option<(u64, u64)>, skip: bool) -> DbReaderOptions
+/// The options of a reader: the lifetime of its checkpoint and the interval of its polls, where they are given, whether it skips log
+/// files, and by how many numbers it may lag, where that is given.
+fn reader_options(managed: Option<(u64, u64)>, skip: bool, lag: Option<u64>) -> DbReaderOptions
     ensures lifetime { result.checkpoint_lifetime_ms ≡ lifetime_of managed }
     ensures interval { result.manifest_poll_interval_ms ≡ interval_of managed }
     ensures skips { result.skip_wal_replay ≡ skip }
+    ensures lag { result.max_lag ≡ lag_of lag }
 {
     let options = DbReaderOptions::default();
     let given = (
@@ -440,6 +443,7 @@ fn reader_options(managed: Option<(u64, u64)>, skip: bool) -> DbReaderOptions
         checkpoint_lifetime_ms: lifetime,
         manifest_poll_interval_ms: interval,
         skip_wal_replay: skip,
+        max_lag: lag.unwrap_or(options.max_lag),
         ..options
     }
 }

@@ -3,7 +3,7 @@ use Rattle.std.proofs.Common.{◌≡◌, ◌∙◌, ◌⊎◌, ℕ, ℤ, ◌+◌
 use Rattle.slate_errors.specs.declared.errors.SlateError.TheVariants as errors
 use Rattle.std.proofs.lemmas.Bool.{eqb-true, leb-true}
 use Rattle.std.specs.Option.{is_some, unwrap_or}
-use Rattle.std.specs.Prelude.{nat_le, nat_lt}
+use Rattle.std.specs.Prelude.{nat_le, nat_lt, ◌||◌}
 use Rattle.slate_types.proofs.Lines.{above-none}
 use Rattle.std.proofs.lemmas.List.{length-take}
 use Rattle.slate_types.specs.Line.{IsLine, Line, batches_above, end}
@@ -15,7 +15,7 @@ use Rattle.slate_store.specs.declared.objects.VersionedManifest.{VersionedManife
 use Rattle.slate_model.proofs.Keeping.{above-twice}
 use Rattle.slate_model.proofs.Fronts.{above-append, fresh-front, front-end, front-split, numbered-take, seen-as, seen-both}
 use Rattle.slate_model.proofs.Maintained.{Recheckpoints, refresh-recheckpoints, write-recheckpoints}
-use Rattle.slate_model.specs.Begun.{AsksLast, Begun, Breaks, Ended, Ends, Fails, Goes, Puts, ReadsAgain, ReadsLatest, ReadsLog, Stage, Turn, arrived, asked_last, asked_lease, base_of, begun_at, committed, decided, emptied, kept_batches, kept_lease, leads_on, overtaken_by, put_by, reached_number, read_again, replayed, replaying, view_of, with_log}
+use Rattle.slate_model.specs.Begun.{AsksLast, Begun, Breaks, Ended, Ends, Fails, Goes, LooksAt, Puts, ReadsAgain, ReadsLatest, ReadsLog, Stage, Turn, arrived, asked_last, asked_lease, base_of, begun_at, committed, decided, emptied, first_log, greatest_number, kept_batches, kept_lease, leads_on, looked_at, overtaken_by, put_by, reached_number, read_again, replayed, replaying, view_of, with_log}
 use Rattle.slate_model.specs.Follower.{Follower, is_managed, kept_follower, number}
 use Rattle.slate_model.specs.Handle.{line_above, up_to}
 use Rattle.slate_model.specs.Lease.{differs, is_due, lease_of, leased}
@@ -28,6 +28,7 @@ use Rattle.slate_model.specs.declared.polls.PollHistory.{PollHistory}
 abbrev pub IsStagedNext : Follower → Begun → Stage → Type 0
 IsStagedNext reader begun (Puts next given replaces) = (last : VersionedManifest) × (begun.latest ≡ Some last) × (is_some begun.lease ≡ true) × IsPlanned last next
 IsStagedNext reader begun AsksLast = reader.skips ≡ false
+IsStagedNext reader begun (LooksAt id last) = reader.skips ≡ false
 IsStagedNext reader begun (ReadsLog last) = reader.skips ≡ false
 IsStagedNext reader begun ReadsAgain = reader.skips ≡ false
 IsStagedNext reader begun stage = Unit {0}
@@ -333,15 +334,31 @@ module _ (stored : Line) (numbered : IsLine stored) (o : Objects) (reader : Foll
         by false = (start b.moment (b.overtaken + 1) b.history, tt, λ is. refl)
 
     -- the last log file was asked for
-    pub asked-comes : (last : ℕ) (b : Begun) → Come W b → reader.skips ≡ false → Comes (Goes (asked_last last (record b { stage = Ended })))
+    pub asked-comes : (last : ℕ) (b : Begun) → Come W b → reader.skips ≡ false → Comes (Goes (asked_last kept last (record b { stage = Ended })))
     asked-comes last b c reads = by (nat_lt b.mark last)
       where
         counted : Begun
         counted = record b { history = with_log last b.history }
 
-        by : (x : Bool) → Comes (Goes (if x then record b { stage = ReadsLog last; history = with_log last b.history } else record b { stage = ReadsAgain }))
-        by true = (restaged counted (ReadsLog last) b.asked (recounted b counted.history c), reads, λ other. absurd (cc))
+        first : (x : Bool) → Comes (Goes (record b { stage = (if x then ReadsLog last else LooksAt last last); history = with_log last b.history }))
+        first true = (restaged counted (ReadsLog last) b.asked (recounted b counted.history c), reads, λ other. absurd (cc))
+        first false = (restaged counted (LooksAt last last) b.asked (recounted b counted.history c), reads, λ other. absurd (cc))
+
+        by : (x : Bool) → Comes (Goes (if x then record b { stage = first_log kept last; history = with_log last b.history } else record b { stage = ReadsAgain }))
+        by true = first (kept.lag == 0)
         by false = (restaged b ReadsAgain b.asked c, reads, λ other. absurd (cc))
+
+    -- a log file was looked at
+    pub looked-comes : (l : VersionedManifest) (id last : ℕ) (batches : List Batch) (b : Begun) → b.latest ≡ Some l → Come W b → reader.skips ≡ false → Comes (looked_at kept l id last batches (record b { stage = Ended }))
+    looked-comes l id last batches b is c reads = by (nat_lt (reached_number b + kept.lag) newest) (nat_lt (reached_number b) newest || id == b.mark + 1)
+      where
+        newest : ℕ
+        newest = greatest_number batches
+
+        by : (x y : Bool) → Comes (if x then Goes (record b { stage = ReadsLog last }) else (if y then replayed l (record b { stage = Ended }) else Goes (record b { stage = LooksAt (id - 1) last })))
+        by true y = (restaged b (ReadsLog last) b.asked c, reads, λ other. absurd (cc))
+        by false true = replayed-comes l (record b { stage = Ended }) is (restaged b Ended b.asked c)
+        by false false = (restaged b (LooksAt (id - 1) last) b.asked c, reads, λ other. absurd (cc))
 
     -- ---- what the reader becomes, of which the code keeps a part
     module _ (whole : reader.line ≡ up_to (number reader) stored) (number_is : number kept ≡ number reader) (b : Begun) (c : Come W b) where

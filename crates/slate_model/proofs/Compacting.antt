@@ -19,7 +19,7 @@ use Rattle.slate_model.specs.Stores.{JoinFault, by_objects}
 use Rattle.slate_model.specs.Valid.{AreBefore, IsValidHandle, ReadsLine}
 use Rattle.slate_model.proofs.Adding.{AreAdded, Lasts, compact-puts, one-put, other-table}
 use Rattle.slate_model.proofs.Flushed.{part_le}
-use Rattle.slate_model.proofs.Logging.{KeepLogs, logs-are_same, logs-same, LogsAre, LogsGo, LogsStay, OfLine, part-are, part-logs, PutLogs, puts-part, stay-follow, stay-go}
+use Rattle.slate_model.proofs.Logging.{KeepLogs, logs-are_same, logs-same, LogsAre, LogsGo, LogsStay, OfLine, PastLine, part-are, part-logs, PutLogs, puts-part, stay-follow, stay-go}
 use Rattle.slate_model.proofs.Moving.{Follows, Moved, none-known}
 use Rattle.slate_model.proofs.Prefixes.{prefix-same}
 use Rattle.slate_model.proofs.Reduced.{whole}
@@ -150,10 +150,12 @@ module _ (stored : Line) (o o' : Objects) (latest : VersionedManifest) (h k : Ha
       latest_is = at;
       epochs = omega (arith, epoch);
       tabled = omega (arith, number);
+      leaps = inl number;
       marked = λ same. mark;
       logs = stay-follow o o' latest.manifest.replay_after_wal_id n'.manifest.replay_after_wal_id (sym mark)
           (subst (LogsStay latest.manifest.replay_after_wal_id (last_log latest.manifest.replay_after_wal_id o) o) (sym after) (part-logs latest.manifest.replay_after_wal_id (last_log latest.manifest.replay_after_wal_id o) made cs o (compaction-keeps-logs latest.manifest.replay_after_wal_id (last_log latest.manifest.replay_after_wal_id o) id o latest)));
       logs_are = subst (LogsAre (OfLine stored) o) (sym after) (part-are (OfLine stored) made cs o (puts-part (OfLine stored) made cs (compaction-put_logs (OfLine stored) id o latest)));
+      news = subst (LogsAre (PastLine stored) o) (sym after) (part-are (PastLine stored) made cs o (puts-part (PastLine stored) made cs (compaction-put_logs (PastLine stored) id o latest)));
       goes = subst (LogsGo (last_log latest.manifest.replay_after_wal_id o) o) (sym after) (stay-go (last_log latest.manifest.replay_after_wal_id o) o (after_part made cs o) (part-logs 0 (last_log latest.manifest.replay_after_wal_id o) made cs o (compaction-keeps-logs 0 (last_log latest.manifest.replay_after_wal_id o) id o latest)));
     }
 
@@ -206,7 +208,7 @@ module _ (stored : Line) (o o' : Objects) (latest : VersionedManifest) (h k : Ha
   refresh-moved a counter =
       subst (Moved stored stored o o latest h) (sym same)
       (viewed-moved stored o o latest latest h k.counter k.view (fenced_result r) is live v reads
-      (record { sound = sound; content = holds; grows = prefix-same stored; latest_is = is; epochs = omega arith; tabled = omega arith; marked = λ same. refl; logs = stay-follow o o _ _ refl (logs-same _ _ o o refl); logs_are = logs-are_same (OfLine stored) o o refl; goes = stay-go _ o o (logs-same _ _ o o refl) }) refl refl (views-by r a)
+      (record { sound = sound; content = holds; grows = prefix-same stored; latest_is = is; epochs = omega arith; tabled = omega arith; leaps = inl refl; marked = λ same. refl; logs = stay-follow o o _ _ refl (logs-same _ _ o o refl); logs_are = logs-are_same (OfLine stored) o o refl; news = logs-are_same (PastLine stored) o o refl; goes = stay-go _ o o (logs-same _ _ o o refl) }) refl refl (views-by r a)
       (λ q differ. refl) before (λ q low some. refl) (omega (arith, counter)) (λ index high. none-known (record { epoch = h.epoch; index = index }) o (v.unused index (omega (arith, counter, high))))) where
         views-by : (q : Result (Unit {0}) SlateError) → RefreshAnswer (kept_handle h) o q k.view → (k.view ≡ h.view) ⊎ ((k.view ≡ latest) × (latest.manifest.writer_epoch ≤ h.epoch))
         views-by (Ok x) a = inr (found-latest k.view a.0, found-current k.view a)

@@ -6,7 +6,7 @@ use Rattle.std.proofs.lemmas.List.Elements.{All-contains_itself, All-nil, Contai
 use Rattle.std.specs.List.{Contains}
 use Rattle.std.specs.Prelude.{nat_le}
 use Rattle.slate_types.proofs.Lines.{above-none}
-use Rattle.slate_types.specs.Line.{IsLine, IsPrefix, Line, batches_above, extended}
+use Rattle.slate_types.specs.Line.{AreNumberedFrom, IsLine, IsPrefix, Line, batches_above, end, extended}
 use Rattle.slate_types.specs.declared.batches.Batch.{Batch}
 use Rattle.slate_types.specs.declared.options.FlushType.{FlushType}
 use Rattle.slate_types.specs.declared.options.FlushType.TheVariants.{Wal, MemTable}
@@ -28,10 +28,11 @@ use Rattle.slate_model.specs.Valid.{AreBefore, IsValidHandle, ReadsLine, up_to}
 use Rattle.slate_model.proofs.Adding.{AreAdded, Lasts, Stay, flush-puts, one-put, other-table, stay-added}
 use Rattle.slate_model.proofs.Flushed.{Leaves, flush-leaves, part_le}
 use Rattle.slate_model.proofs.Keeping.{changes-kept, view-kept}
-use Rattle.slate_model.proofs.Logging.{keep-append, KeepLogs, LogsAre, LogsFollow, LogsGo, LogsStay, mark-follow, OfLine, part-are, part-logs, PutLogs, puts-part, stay-follow, stay-go}
+use Rattle.slate_model.proofs.Logging.{keep-append, KeepLogs, LogsAre, LogsFollow, LogsGo, LogsStay, mark-follow, OfLine, PastLine, numbered-past, part-are, part-logs, PutLogs, puts-part, stay-follow, stay-go}
 use Rattle.slate_store.proofs.LastLog.{at_least}
 use Rattle.slate_model.proofs.Moving.{Follows, Moved, known-none, none-known, still-reads}
-use Rattle.slate_model.proofs.Prefixes.{extended-nil, prefix-after, prefix-same, up_to-all}
+use Rattle.slate_model.proofs.Reopened.{numbered_rest}
+use Rattle.slate_model.proofs.Prefixes.{extended-nil, prefix-after, prefix-end, prefix-same, up_to-all}
 use Rattle.slate_model.proofs.Reduced.{whole}
 use Rattle.slate_model.proofs.Tabled.{joined-line, tables-within}
 
@@ -56,6 +57,14 @@ view-number MemTable h latest last = by (has_untabled h latest.manifest) refl wh
   by : (some : Bool) → has_untabled h latest.manifest ≡ some → latest.manifest.last_l0_seq ≤ (cond some (next_flushed h latest last) latest).manifest.last_l0_seq
   by true is = let less = ltb-true latest.manifest.last_l0_seq (accepted h) is in omega (arith, less)
   by false is = omega arith
+
+-- the last number in its tables is the old one, or that of the last batch that the handle accepted
+view-leaps : (t : FlushType) (h : Handle) (latest : VersionedManifest) (last : ℕ) → ((flush_view t h latest last).manifest.last_l0_seq ≡ latest.manifest.last_l0_seq) ⊎ ((flush_view t h latest last).manifest.last_l0_seq ≡ accepted h)
+view-leaps Wal h latest last = inl refl
+view-leaps MemTable h latest last = by (has_untabled h latest.manifest) where
+  by : (some : Bool) → ((cond some (next_flushed h latest last) latest).manifest.last_l0_seq ≡ latest.manifest.last_l0_seq) ⊎ ((cond some (next_flushed h latest last) latest).manifest.last_l0_seq ≡ accepted h)
+  by true = inr refl
+  by false = inl refl
 
 -- the replay mark of the manifest that a flush commits is the old one, or not below the last log file
 log_after-high : (bs : List Batch) (last : ℕ) → last ≤ log_after bs last
@@ -366,6 +375,17 @@ module _ (stored : Line) (o o' : Objects) (latest : VersionedManifest) (t : Flus
     | inr new ↦ (let e = ap (λ (m : VersionedManifest). m.manifest.last_l0_seq) new.0 in let low = view-number t h latest last in omega (arith, e, low))
   ]
 
+  next-leaps : (n'.manifest.last_l0_seq ≡ latest.manifest.last_l0_seq) ⊎ (end stored ≤ n'.manifest.last_l0_seq)
+  next-leaps = elim newest.which [
+    | inl same ↦ inl (ap (λ (m : VersionedManifest). m.manifest.last_l0_seq) same.0)
+    | inr new ↦
+        let e = ap (λ (m : VersionedManifest). m.manifest.last_l0_seq) new.0 in
+        elim (view-leaps t h latest last) [
+          | inl same ↦ inl (e ∙ same)
+          | inr all ↦ let low = prefix-end stored h.line (unstored h, sym (line-is new.1)) in inr (omega (arith, e, all, low))
+        ]
+  ]
+
   next-epoch : n'.manifest.writer_epoch ≡ latest.manifest.writer_epoch
   next-epoch = elim newest.which [
     | inl same ↦ ap (λ (m : VersionedManifest). m.manifest.writer_epoch) same.0
@@ -408,6 +428,19 @@ module _ (stored : Line) (o o' : Objects) (latest : VersionedManifest) (t : Flus
         let logs : to_log h ≡ [] = ap (λ x. cond x (unstored h) []) is_b in
         subst (OfLine stored') (sym logs) (All-nil (λ batch. Contains stored'.batches batch))
 
+  -- and comes after what was
+  logged-past : 0 < made → PastLine stored (to_log h)
+  logged-past some = by h.keeps_log refl where
+    by : (b : Bool) → h.keeps_log ≡ b → PastLine stored (to_log h)
+    by true is_b =
+        let line = line-is (made-current some) in
+        let numbered : AreNumberedFrom stored.floor (stored.batches ++ unstored h) = subst (λ (l : Line). AreNumberedFrom l.floor l.batches) (sym line) v.numbered in
+        let logs : to_log h ≡ unstored h = ap (λ x. cond x (unstored h) []) is_b in
+        subst (PastLine stored) (sym logs) (numbered-past (end stored) (unstored h) (numbered_rest stored.floor stored.batches (unstored h) numbered))
+    by false is_b =
+        let logs : to_log h ≡ [] = ap (λ x. cond x (unstored h) []) is_b in
+        subst (PastLine stored) (sym logs) (All-nil (λ (batch : Batch). end stored < batch.number))
+
   follows : Follows stored stored' o o' latest n'
   follows = record {
     sound = newest.sound_after;
@@ -416,9 +449,11 @@ module _ (stored : Line) (o o' : Objects) (latest : VersionedManifest) (t : Flus
     latest_is = newest.is_latest;
     epochs = (let e = next-epoch in omega (arith, e));
     tabled = next-number;
+    leaps = next-leaps;
     marked = next-marked;
     logs = logs-follow;
     logs_are = subst (LogsAre (OfLine stored') o) (sym after) (part-are (OfLine stored') made cs o (flush-put_logs (OfLine stored') t h latest last made logged-of));
+    news = subst (LogsAre (PastLine stored) o) (sym after) (part-are (PastLine stored) made cs o (flush-put_logs (PastLine stored) t h latest last made logged-past));
     goes = subst (LogsGo last o) (sym after) (stay-go last o (after_part made cs o) (part-logs 0 last made cs o (flush-keeps-logs 0 t h latest last)));
   }
 

@@ -11,7 +11,7 @@ use Rattle.std.specs.Ordering.{match_ordering, nat_cmp}
 use Rattle.std.specs.declared.cmp.Ordering.{Ordering}
 use Rattle.std.specs.declared.cmp.Ordering.TheVariants.{Less, Equal, Greater}
 use Rattle.slate_types.specs.declared.batches.Batch.{Batch}
-use Rattle.slate_types.specs.Line.{Line, batches_above, end}
+use Rattle.slate_types.specs.Line.{AreNumberedFrom, Line, batches_above, end}
 use Rattle.slate_store.proofs.Latest.{its-objects}
 use Rattle.slate_store.proofs.Logs.{belong-log}
 use Rattle.slate_store.specs.Content.{IsSound, content, content_by, logged, number_before, table_batches}
@@ -158,6 +158,17 @@ LogsAre P o o' = (id : ℕ) (batches : List Batch) → log_at id o' ≡ Some bat
 abbrev pub OfLine : Line → List Batch → Type 0
 OfLine line batches = All (λ batch. Contains line.batches batch) batches
 
+-- they come after a line
+abbrev pub PastLine : Line → List Batch → Type 0
+PastLine line batches = All (λ batch. end line < batch.number) batches
+
+-- batches that are numbered from one on come after it
+pub numbered-past : (floor : ℕ) (bs : List Batch) → AreNumberedFrom floor bs → All (λ b. floor < b.number) bs
+numbered-past floor [] numbered = All-nil (λ (b : Batch). floor < b.number)
+numbered-past floor (b ∷ bs) numbered =
+    let first = numbered.0 in
+    All-cons (λ (x : Batch). floor < x.number) b bs (omega (arith, first)) (λ k d less. let rest = numbered-past (floor + 1) bs numbered.1 k d less in omega (arith, rest))
+
 pub puts-first : (P : List Batch → Type 0) (c : Change) (cs : List Change) → PutLogs P (c ∷ cs) → PutLogs P (c ∷ []) × PutLogs P cs
 puts-first P (PutLog id log) cs puts = ((puts.0, tt), puts.1)
 puts-first P (RemoveLog id) cs puts = (tt, puts)
@@ -293,8 +304,8 @@ module _ (o : Objects) (latest : VersionedManifest) (sound : IsSound o) (is : la
       let parts : length (joined ++ logged o m) ≡ length joined + length (logged o m) = length-append joined (logged o m) in
       ap (λ found. end (content_by o found)) is ∙ (let e : number_before joined m.last_l0_seq + length (joined ++ logged o m) ≡ m.last_l0_seq + length (logged o m) = omega (arith, its, parts) in e)
 
-  pub all-seen : (mode : DbReaderMode) (skips : Bool) → HasSeen o (rebuilt mode skips latest (content o) (last_log m.replay_after_wal_id o))
-  all-seen mode skips = record {
+  pub all-seen : (mode : DbReaderMode) (skips : Bool) (lag : ℕ) → HasSeen o (rebuilt mode skips lag latest (content o) (last_log m.replay_after_wal_id o))
+  all-seen mode skips lag = record {
     mark = λ found at. let same : latest ≡ found = (cc) in let e = ap (λ (x : VersionedManifest). last_log x.manifest.replay_after_wal_id o) same in omega (arith, e);
     logs = λ found id bs at over under there. within id bs (let same : latest ≡ found = (cc) in let e = ap (λ (x : VersionedManifest). x.manifest.replay_after_wal_id) same in omega (arith, e, over)) under there;
   } where
@@ -308,8 +319,8 @@ module _ (o : Objects) (latest : VersionedManifest) (sound : IsSound o) (is : la
         above-within m.last_l0_seq (end (content o)) bs (omega (arith, ends)) (λ k d less. let low = stands-within _ line (stand k d less) in omega (arith, low, ends))
 
 -- what one that has read no log file above the replay mark has seen
-pub none-seen : (o : Objects) (view : VersionedManifest) (mode : DbReaderMode) (skips : Bool) (line : Line) → latest_manifest o ≡ Some view → HasSeen o (rebuilt mode skips view line view.manifest.replay_after_wal_id)
-none-seen o view mode skips line is = record {
+pub none-seen : (o : Objects) (view : VersionedManifest) (mode : DbReaderMode) (skips : Bool) (lag : ℕ) (line : Line) → latest_manifest o ≡ Some view → HasSeen o (rebuilt mode skips lag view line view.manifest.replay_after_wal_id)
+none-seen o view mode skips lag line is = record {
   mark = λ found at.
       let same : view ≡ found = (cc) in
       let e = ap (λ (x : VersionedManifest). x.manifest.replay_after_wal_id) same in

@@ -1,7 +1,7 @@
 -- What holds of the handles of a world after the objects of its store changed.
 use Rattle.std.proofs.Common.{◌≡◌, ℕ, ◌<◌, ◌≤◌, ◌⊎◌, inl, List, ◌++◌, option_map, Some, None, Option, refl, sym, ap, ◌∙◌, arith}
 use Rattle.std.specs.List.{All}
-use Rattle.slate_types.specs.Line.{IsPrefix, Line, batches_above, extended}
+use Rattle.slate_types.specs.Line.{IsPrefix, Line, batches_above, end, extended}
 use Rattle.slate_types.specs.declared.batches.Batch.{Batch}
 use Rattle.slate_store.specs.Content.{IsSound, content}
 use Rattle.slate_store.specs.Objects.{Objects, last_log, latest_manifest, table_at}
@@ -12,7 +12,7 @@ use Rattle.slate_model.specs.Handle.{Handle, unstored}
 use Rattle.slate_model.specs.Tables.{AreStored}
 use Rattle.slate_model.specs.Valid.{IsValidHandle, ReadsLine, up_to}
 use Rattle.slate_model.proofs.Adding.{Lasts, lasting}
-use Rattle.slate_model.proofs.Logging.{LogsAre, LogsFollow, LogsGo, OfLine, logs-are_same, logs-same, stay-follow, stay-go}
+use Rattle.slate_model.proofs.Logging.{LogsAre, LogsFollow, LogsGo, OfLine, PastLine, logs-are_same, logs-same, stay-follow, stay-go}
 use Rattle.slate_model.proofs.Catalogued.{table-known}
 use Rattle.slate_model.proofs.Prefixes.{prefix-same, prefix-then}
 
@@ -34,8 +34,8 @@ pub stored-known : (o : Objects) (ids : List TableId) → AreStored (catalogue_o
 stored-known o ids stored k d less none = stored k d less (known-none _ o none)
 
 -- Sound objects that follow others under which this line was stored, and this manifest was the latest: the line and the log
--- files go on, neither the epoch nor the last number in tables falls, the replay mark is the same while that number is, a log file
--- that is new has batches of the line, and log files go in their order.
+-- files go on, neither the epoch nor the last number in tables falls, that number is the same or not below the end of the line before,
+-- the replay mark is the same while it is, a log file that is new has batches of the line that come after the one before, and log files go in their order.
 pub record Follows (stored stored' : Line) (o o' : Objects) (latest latest' : VersionedManifest) : Type 0 where
   pub sound : IsSound o'
   pub content : content o' ≡ stored'
@@ -43,9 +43,11 @@ pub record Follows (stored stored' : Line) (o o' : Objects) (latest latest' : Ve
   pub latest_is : latest_manifest o' ≡ Some latest'
   pub epochs : latest.manifest.writer_epoch ≤ latest'.manifest.writer_epoch
   pub tabled : latest.manifest.last_l0_seq ≤ latest'.manifest.last_l0_seq
+  pub leaps : (latest'.manifest.last_l0_seq ≡ latest.manifest.last_l0_seq) ⊎ (end stored ≤ latest'.manifest.last_l0_seq)
   pub marked : latest'.manifest.last_l0_seq ≡ latest.manifest.last_l0_seq → latest'.manifest.replay_after_wal_id ≡ latest.manifest.replay_after_wal_id
   pub logs : LogsFollow o o' latest.manifest.replay_after_wal_id latest'.manifest.replay_after_wal_id
   pub logs_are : LogsAre (OfLine stored') o o'
+  pub news : LogsAre (PastLine stored) o o'
   pub goes : LogsGo (last_log latest.manifest.replay_after_wal_id o) o o'
 
 module _ (stored stored' : Line) (o o' : Objects) (latest latest' : VersionedManifest) (is : latest_manifest o ≡ Some latest) (f : Follows stored stored' o o' latest latest') where
@@ -98,7 +100,7 @@ pub record Moved (stored stored' : Line) (o o' : Objects) (latest : VersionedMan
 pub unmoved : (stored : Line) (o : Objects) (latest : VersionedManifest) (h new : Handle) → IsSound o → content o ≡ stored → latest_manifest o ≡ Some latest → new.epoch ≡ h.epoch → h.counter ≤ new.counter → new.view ≡ h.view → IsValidHandle stored (catalogue_of o) new → ReadsLine o new.view new.line → Moved stored stored o o latest h new
 unmoved stored o latest h new sound holds is epoch counter view mine reads = record {
   next = latest;
-  follows = record { sound = sound; content = holds; grows = prefix-same stored; latest_is = is; epochs = omega arith; tabled = omega arith; marked = λ same. refl; logs = stay-follow o o _ _ refl (logs-same _ _ o o refl); logs_are = logs-are_same (OfLine stored) o o refl; goes = stay-go _ o o (logs-same _ _ o o refl) };
+  follows = record { sound = sound; content = holds; grows = prefix-same stored; latest_is = is; epochs = omega arith; tabled = omega arith; leaps = inl refl; marked = λ same. refl; logs = stay-follow o o _ _ refl (logs-same _ _ o o refl); logs_are = logs-are_same (OfLine stored) o o refl; news = logs-are_same (PastLine stored) o o refl; goes = stay-go _ o o (logs-same _ _ o o refl) };
   others = λ q differ. refl;
   lasts = λ q before some. refl;
   counter = counter;

@@ -1,5 +1,5 @@
 -- What an opening leaves of the handles of a world, and the handle that it gives.
-use Rattle.std.proofs.Common.{◌≡◌, ℕ, ◌+◌, ◌<◌, ◌≤◌, List, [], ◌∷◌, Some, None, Option, Bool, false, refl, sym, subst, ap, ◌∙◌, arith}
+use Rattle.std.proofs.Common.{◌≡◌, ℕ, ◌+◌, ◌<◌, ◌≤◌, inl, List, [], ◌∷◌, Some, None, Option, Bool, false, refl, sym, subst, ap, ◌∙◌, arith}
 use Rattle.std.specs.List.{Contains}
 use Rattle.std.proofs.lemmas.Bool.{false_from_ne_true}
 use Rattle.std.proofs.lemmas.List.Elements.{All-head, All-nil, All-tail}
@@ -23,7 +23,7 @@ use Rattle.slate_model.specs.Segments.{Extractor, extractor_name}
 use Rattle.slate_model.specs.Open.{found_log, mark_of, next_manifest, open_changes, opened_handle, opened_manifest}
 use Rattle.slate_model.specs.Valid.{IsValidHandle, ReadsLine}
 use Rattle.slate_model.proofs.Adding.{none-put}
-use Rattle.slate_model.proofs.Logging.{LogsAre, OfLine, part-are, part-logs, puts-part, stay-follow, stay-go}
+use Rattle.slate_model.proofs.Logging.{LogsAre, OfLine, PastLine, part-are, part-logs, puts-part, stay-follow, stay-go}
 use Rattle.slate_model.proofs.Moving.{Follows, known-none, still-valid}
 use Rattle.slate_model.proofs.Prefixes.{extended-nil, prefix-same, up_to-all}
 use Rattle.slate_model.proofs.Reopened.{opened}
@@ -67,6 +67,10 @@ module _ (x : Option Extractor) (stored : Line) (o : Objects) (made : ℕ) (soun
   pub opened-logs_are : LogsAre (OfLine stored) o o'
   opened-logs_are = part-are (OfLine stored) made (open_changes (extractor_name x) (λ xs. xs) o) o (puts-part (OfLine stored) made (open_changes (extractor_name x) (λ xs. xs) o) (All-nil (λ batch. Contains stored.batches batch), tt))
 
+  -- and comes after the line
+  opened-news : LogsAre (PastLine stored) o o'
+  opened-news = part-are (PastLine stored) made (open_changes (extractor_name x) (λ xs. xs) o) o (puts-part (PastLine stored) made (open_changes (extractor_name x) (λ xs. xs) o) (All-nil (λ (batch : Batch). end stored < batch.number), tt))
+
   pub opened-follows : (latest : VersionedManifest) → latest_manifest o ≡ Some latest → Follows stored stored o o' latest v
   opened-follows latest is =
       let b = opened (extractor_name x) o made sound some few in
@@ -80,9 +84,11 @@ module _ (x : Option Extractor) (stored : Line) (o : Objects) (made : ℕ) (soun
         latest_is = b.latest;
         epochs = omega (arith, epoch);
         tabled = omega (arith, number);
+        leaps = inl number;
         marked = λ same. mark;
         logs = stay-follow o o' latest.manifest.replay_after_wal_id v.manifest.replay_after_wal_id (sym mark) (part-logs latest.manifest.replay_after_wal_id (last_log latest.manifest.replay_after_wal_id o) made (open_changes (extractor_name x) (λ xs. xs) o) o (before-fence latest is, tt));
         logs_are = opened-logs_are;
+        news = opened-news;
         goes = stay-go (last_log latest.manifest.replay_after_wal_id o) o o' (part-logs 0 (last_log latest.manifest.replay_after_wal_id o) made (open_changes (extractor_name x) (λ xs. xs) o) o (before-fence latest is, tt));
       }
 

@@ -319,13 +319,13 @@ owed-known stored c t o modes.FollowLatest false opening view owed sound is v x 
 owed-known stored c t o modes.ManagedCheckpoint false opening view owed sound is v x = x
 
 -- one that takes what is new has seen what it has read for it
-pub owed-seen : (o : Objects) (mode : DbReaderMode) (skips opening : Bool) (view : VersionedManifest) → IsSound o → IsView mode opening o view → is_pinned mode ≡ false →
-    HasSeen o (rebuilt mode skips view (owed_line mode skips o view (content o)) (last_read mode skips view o))
-owed-seen o (modes.Checkpoint id) skips opening view sound v free = absurd (cc)
-owed-seen o modes.FollowLatest true opening view sound v free = none-seen o view modes.FollowLatest true (up_to view.manifest.last_l0_seq (content o)) (v.1 ∙ v.3)
-owed-seen o modes.FollowLatest false opening view sound v free = all-seen o view sound (v.1 ∙ v.3) modes.FollowLatest false
-owed-seen o modes.ManagedCheckpoint true opening view sound v free = none-seen o view modes.ManagedCheckpoint true (up_to view.manifest.last_l0_seq (content o)) (v.1 ∙ v.3)
-owed-seen o modes.ManagedCheckpoint false opening view sound v free = all-seen o view sound (v.1 ∙ v.3) modes.ManagedCheckpoint false
+pub owed-seen : (o : Objects) (mode : DbReaderMode) (skips opening : Bool) (lag : ℕ) (view : VersionedManifest) → IsSound o → IsView mode opening o view → is_pinned mode ≡ false →
+    HasSeen o (rebuilt mode skips lag view (owed_line mode skips o view (content o)) (last_read mode skips view o))
+owed-seen o (modes.Checkpoint id) skips opening lag view sound v free = absurd (cc)
+owed-seen o modes.FollowLatest true opening lag view sound v free = none-seen o view modes.FollowLatest true lag (up_to view.manifest.last_l0_seq (content o)) (v.1 ∙ v.3)
+owed-seen o modes.FollowLatest false opening lag view sound v free = all-seen o view sound (v.1 ∙ v.3) modes.FollowLatest false lag
+owed-seen o modes.ManagedCheckpoint true opening lag view sound v free = none-seen o view modes.ManagedCheckpoint true lag (up_to view.manifest.last_l0_seq (content o)) (v.1 ∙ v.3)
+owed-seen o modes.ManagedCheckpoint false opening lag view sound v free = all-seen o view sound (v.1 ∙ v.3) modes.ManagedCheckpoint false lag
 
 -- and each reads its line
 pub owed-reads : (o : Objects) (stored : Line) (mode : DbReaderMode) (skips : Bool) (view : VersionedManifest) (its : Owed o stored mode skips view) → ReadsLine o view its.owed

@@ -4,7 +4,7 @@ use Rattle.std.specs.Option.{IfSome}
 use Rattle.std.specs.Result.{IfOk, IfErr}
 use Rattle.slate_types.specs.declared.batches.Batch.{Batch}
 use Rattle.slate_types.specs.declared.options.FlushType.{FlushType}
-use Rattle.slate_types.specs.Line.{IsPrefix, Line, batches_above, end}
+use Rattle.slate_types.specs.Line.{IsPrefix, Line, batches_above, end, extended}
 use Rattle.slate_types.specs.declared.store_errors.StoreFault.TheVariants.{Unavailable, NotFound}
 use Rattle.slate_store.specs.Calls.{WhereModelled}
 use Rattle.slate_store.specs.declared.objects.VersionedManifest.{VersionedManifest}
@@ -19,16 +19,17 @@ use Rattle.slate_errors.specs.Errors.{closed_error}
 use Rattle.slate_model.specs.Catalogue.{Span, catalogue_of, span, Catalogue, joined_span}
 use Rattle.slate_model.specs.declared.answers.PollAnswer.{PollAnswer}
 use Rattle.slate_model.specs.Close.{Closes, ended, fault_again, closing_flush, without_tasks}
-use Rattle.slate_model.specs.Follow.{AreFollowed, FollowCause, HasAllLogs, IsOwed, Polls, Rebuilds, ReplayRefuses, SeesOwed, built}
+use Rattle.slate_model.specs.Follow.{AnswersAt, AreFollowed, FollowCause, HasAllLogs, IsOwed, Polls, Rebuilds, ReplayRefuses, SeesOwed, SeesPolled, built, come_by}
 use Rattle.slate_model.specs.Followed.{IsView, RefusesLatest, kept_by, last_read, view_under}
-use Rattle.slate_model.specs.Follower.{Follower, HasSegments, is_pinned, kept_follower, rebuilt}
+use Rattle.slate_model.specs.Follower.{Follower, HasSegments, is_pinned, kept_follower, number, rebuilt}
 use Rattle.slate_store.specs.Checkpoints.{found}
 use Rattle.slate_store.specs.declared.objects.Checkpoint.{Checkpoint}
 use Rattle.slate_store.specs.declared.reader_modes.DbReaderMode.{DbReaderMode}
 use Rattle.slate_store.specs.declared.reader_modes.DbReaderMode.TheVariants as modes
+use Rattle.slate_model.proofs.Prefixes.{up_to-end}
 use Rattle.slate_model.proofs.Owing.{Owed, not-unpinned, owed-is, owed-known, owed_line, owing}
 use Rattle.slate_model.specs.declared.answers.PollAnswer.TheVariants.{Whole, Truncated}
-use Rattle.slate_model.specs.Handle.{Handle, CloseResult, accepted, kept_handle, line_above, next_table, untabled_segments}
+use Rattle.slate_model.specs.Handle.{Handle, CloseResult, accepted, kept_handle, line_above, next_table, untabled_segments, up_to}
 use Rattle.slate_model.specs.Segments.{Extractor, extractor_name, segments_of}
 use Rattle.slate_model.specs.Known.{Known, Untouched}
 use Rattle.slate_model.proofs.Reopened.{no-fault}
@@ -47,7 +48,7 @@ use Rattle.slate_model.proofs.Keeping.{accepted-kept, changes-kept, cond-twice, 
 use Rattle.slate_model.specs.Changes.{PartMade, after_part}
 use Rattle.slate_types.specs.declared.options.FlushType.TheVariants.{Wal, MemTable}
 use Rattle.std.proofs.lemmas.List.{length-map}
-use Rattle.std.specs.Prelude.{nat_le, IfOk}
+use Rattle.std.specs.Prelude.{nat_le, IfOk, ◌⊎◌, max}
 use Rattle.slate_seqtrack.specs.Bytes.{packed}
 use Rattle.slate_store.specs.Compaction.{compact_changes}
 use Rattle.std.proofs.lemmas.Bool.{ltb-true}
@@ -386,10 +387,13 @@ if_err : {A : Type 0} {P Q : SlateError → Type 0} (r : Result A SlateError) �
 if_err (Ok x) f h = tt
 if_err (Err e) f h = f e h
 
--- the whole follower that was rebuilt under a manifest, of which the code keeps a part
-abbrev pub rebuilt-whole : DbReaderMode → Bool → Objects → Line → Result (Follower × PollAnswer) SlateError → Result (Follower × PollAnswer) SlateError
-rebuilt-whole mode skips o stored (Ok b) = Ok (record (rebuilt mode skips b.0.view (owed_line mode skips o b.0.view stored) b.0.mark) { segments = b.0.segments }, b.1)
-rebuilt-whole mode skips o stored (Err e) = Err e
+-- the whole follower that was rebuilt under a manifest and sees this line, of which the code keeps a part
+abbrev pub with_line : DbReaderMode → Bool → (lag : ℕ) → Follower → Line → Follower
+with_line mode skips lag follower line = record (rebuilt mode skips lag follower.view line follower.mark) { segments = follower.segments }
+
+abbrev pub rebuilt-whole : DbReaderMode → Bool → (lag : ℕ) → (Follower → Line) → Result (Follower × PollAnswer) SlateError → Result (Follower × PollAnswer) SlateError
+rebuilt-whole mode skips lag line (Ok b) = Ok (with_line mode skips lag b.0 (line b.0), b.1)
+rebuilt-whole mode skips lag line (Err e) = Err e
 
 -- a catalogue has the manifests
 kept_by-known : (o : Objects) (c : Option Checkpoint) → kept_by (catalogue_of o) c ≡ kept_by o c
@@ -427,17 +431,83 @@ logs-known o f g (Whole at) same all = let last = last_log-catalogue 0 o in omeg
 logs-known o f g (Truncated at) same all = tt
 
 -- what is seen of objects is seen of their catalogue
-pub sees-known : (stored : Line) (c : Catalogue) (t : Option Objects) (mode : DbReaderMode) (skips opening : Bool) (o : Objects) (b : Follower) (answer : PollAnswer) → IsSound o → content o ≡ stored → IsView mode opening o b.view → SeesOwed (by_objects t) mode skips o stored b answer →
-    SeesOwed (by_catalogue stored c) mode skips (catalogue_of o) stored (record (rebuilt mode skips b.view (owed_line mode skips o b.view stored) b.mark) { segments = b.segments }) answer
-sees-known stored c t mode skips opening o b answer sound is v all =
+pub sees-known : (stored : Line) (c : Catalogue) (t : Option Objects) (mode : DbReaderMode) (skips opening : Bool) (lag : ℕ) (o : Objects) (b : Follower) (answer : PollAnswer) → IsSound o → content o ≡ stored → IsView mode opening o b.view → SeesOwed (by_objects t) mode skips lag o stored b answer →
+    SeesOwed (by_catalogue stored c) mode skips lag (catalogue_of o) stored (with_line mode skips lag b (owed_line mode skips o b.view stored)) answer
+sees-known stored c t mode skips opening lag o b answer sound is v all =
     let owed = owed_line mode skips o b.view stored in
     let line = owed-is t o mode skips b.view stored all.0 all.1 in
     let mark : b.mark ≡ last_read mode skips b.view (catalogue_of o) = ap (λ (x : Follower). x.mark) all.2 ∙ sym (last_read-known mode skips b.view o) in (
       owed,
       owed-known stored c t o mode skips opening b.view owed sound is v (subst (IsOwed (by_objects t) mode skips o b.view stored) line all.1),
-      ap (rebuilt mode skips b.view owed) mark,
+      ap (rebuilt mode skips lag b.view owed) mark,
       all.3 ∙ ap (λ l. Whole (end l)) line,
     )
+
+-- What is known of objects about what a follower sees: of this line the code keeps its part, the answer gives its number, and by the
+-- catalogue the follower with it sees as much.
+pub record IsKnown (mode : DbReaderMode) (skips : Bool) (lag : ℕ) (Sees : ObjectsOf Span → Line → Follower → PollAnswer → Type 0) (o : Objects) (stored line : Line) (b : Follower) (answer : PollAnswer) : Type 0 where
+  pub keeps : b.line ≡ line_above b.view.manifest.last_l0_seq line
+  pub answers : AnswersAt (end line) answer
+  pub sees : Sees (catalogue_of o) stored (with_line mode skips lag b line) answer
+
+module _ (stored : Line) (mode : DbReaderMode) (skips opening : Bool) (lag : ℕ) (o : Objects) (b : Follower) (answer : PollAnswer) (sound : IsSound o) (is : content o ≡ stored) (v : IsView mode opening o b.view) (all : SeesOwed (by_objects (Some o)) mode skips lag o stored b answer) where
+  owed_is : all.0 ≡ owed_line mode skips o b.view stored
+  owed_is = owed-is (Some o) o mode skips b.view stored all.0 all.1
+
+  -- so what one that is opened is owed
+  pub owed-known-by : IsKnown mode skips lag (SeesOwed (by_catalogue stored (catalogue_of o)) mode skips lag) o stored (owed_line mode skips o b.view stored) b answer
+  owed-known-by = record {
+    keeps = ap (λ (f : Follower). f.line) all.2 ∙ ap (line_above b.view.manifest.last_l0_seq) owed_is;
+    answers = inl (all.3 ∙ ap (λ l. Whole (end l)) owed_is);
+    sees = sees-known stored (catalogue_of o) (Some o) mode skips opening lag o b answer sound is v all;
+  }
+
+-- and what a poll gives: what is stored up to the follower's number
+module _ (stored : Line) (a : Follower) (o : Objects) (b : Follower) (answer : PollAnswer) (sound : IsSound o) (is : content o ≡ stored) (v : IsView a.mode false o b.view) where
+  abbrev seen_line : Line
+  seen_line = up_to (number b) stored
+
+  same-number : number (kept_follower a) ≡ number a
+  same-number = line_above-end a.view.manifest.last_l0_seq a.line
+
+  comes-same : come_by (kept_follower a) b.view ≡ come_by a b.view
+  comes-same = ap (λ n. max n b.view.manifest.last_l0_seq) same-number
+
+  of-owed : SeesOwed (by_objects (Some o)) a.mode a.skips a.lag o stored b answer → owed_line a.mode a.skips o b.view stored ≡ seen_line
+  of-owed all =
+      let line = owed_is stored a.mode a.skips false a.lag o b answer sound is v all in
+      let owed = owed_line a.mode a.skips o b.view stored in
+      let begins : IsPrefix owed stored = owed-begins stored a.mode a.skips false o b.view sound is v in
+      let ends : number b ≡ end owed = ap number all.2 ∙ (line_above-end b.view.manifest.last_l0_seq all.0 ∙ ap end line) in
+      sym (ap (λ l. up_to (number b) l) begins.1 ∙ (ap (λ n. up_to n (extended owed begins.0)) ends ∙ up_to-end owed begins.0))
+
+  pub polled-by : SeesPolled (by_objects (Some o)) (kept_follower a) o stored b answer → IsKnown a.mode a.skips a.lag (SeesPolled (by_catalogue stored (catalogue_of o)) a) o stored seen_line b answer
+  polled-by (inl (all, catches)) =
+      let line = of-owed all in
+      let known = owed-known-by stored a.mode a.skips false a.lag o b answer sound is v all in
+      record {
+        keeps = known.keeps ∙ ap (line_above b.view.manifest.last_l0_seq) line;
+        answers = subst (λ l. AnswersAt (end l) answer) line known.answers;
+        sees = inl (
+          subst (λ l. SeesOwed (by_catalogue stored (catalogue_of o)) a.mode a.skips a.lag (catalogue_of o) stored (with_line a.mode a.skips a.lag b l) answer) line known.sees,
+          subst (λ n. (a.lag ≡ 0) ⊎ ((a.skips ≡ true) ⊎ ((n + a.lag < end stored) ⊎ (b.view.manifest.last_l0_seq < a.view.manifest.last_l0_seq)))) comes-same catches,
+        );
+      }
+  polled-by (inr stays) =
+      let ends : number b ≡ end seen_line = ap number stays.sees ∙ line_above-end b.view.manifest.last_l0_seq seen_line in
+      record {
+        keeps = ap (λ (f : Follower). f.line) stays.sees;
+        answers = inl (stays.answered ∙ ap Whole ends);
+        sees = inr (record {
+          reads = stays.reads;
+          may = stays.may;
+          near = subst (λ m. end stored ≤ m + a.lag) comes-same stays.near;
+          reached = sym ends ∙ (stays.reached ∙ comes-same);
+          sees = ap (λ n. rebuilt a.mode a.skips a.lag b.view (up_to n stored) b.mark) ends;
+          mark = subst (λ n. (b.mark ≡ max a.mark b.view.manifest.replay_after_wal_id) ⊎ ((n < b.view.manifest.last_l0_seq) × (b.mark ≡ b.view.manifest.replay_after_wal_id))) same-number stays.mark;
+          answered = stays.answered ∙ ap Whole ends;
+        });
+      }
 
 -- which keys it replays of objects without a segment is known by their catalogue
 module _ (x : Option Extractor) (stored : Line) (c : Catalogue) (t : Option Objects) (mode : DbReaderMode) (skips : Bool) (o : Objects) (sound : IsSound o) (is : content o ≡ stored) where
@@ -460,35 +530,36 @@ pub segments-whole : (x : Option Extractor) (number : ℕ) (kept line : Line) (s
 segments-whole x number kept line segments is has =
     has ∙ (ap (λ (l : Line). segments_of x (batches_above number l.batches)) is ∙ ap (λ (l : Line). segments_of x l.batches) (line_above-twice number number line (omega arith)))
 
-module _ (x : Option Extractor) (stored : Line) (mode : DbReaderMode) (skips opening : Bool) (seen : Objects → Line → Type 0) (seen' : ObjectsOf Span → Line → Type 0) (o o' : Objects) (f f' : ℕ) (sound : IsSound o) (is : content o ≡ stored) (was_seen : seen o stored) where
-  -- a follower that takes what is stored of sound objects sees what it is owed
-  pub rebuilds-reduced : (r : Result (Follower × PollAnswer) SlateError) → Rebuilds (by_objects (Some o)) x mode skips opening seen (holding o f) r (holding o' f') → Rebuilds (by_catalogue stored (catalogue_of o)) x mode skips opening seen' (catalogued o f) (rebuilt-whole mode skips o stored r) (catalogued o' f')
+module _ (x : Option Extractor) (stored : Line) (mode : DbReaderMode) (skips opening : Bool) (lag : ℕ) (Sees : Objects → Line → Follower → PollAnswer → Type 0) (Sees' : ObjectsOf Span → Line → Follower → PollAnswer → Type 0) (seen : Objects → Line → Type 0) (seen' : ObjectsOf Span → Line → Type 0)
+    (o o' : Objects) (f f' : ℕ) (sound : IsSound o) (is : content o ≡ stored) (was_seen : seen o stored) (line : Follower → Line)
+    (knows : (b : Follower) (answer : PollAnswer) → IsView mode opening o b.view → Sees o stored b answer → IsKnown mode skips lag Sees' o stored (line b) b answer) where
+  -- a follower that takes what is stored of sound objects sees what it is to
+  pub rebuilds-reduced : (r : Result (Follower × PollAnswer) SlateError) → Rebuilds (by_objects (Some o)) x mode skips opening lag Sees seen (holding o f) r (holding o' f') →
+      Rebuilds (by_catalogue stored (catalogue_of o)) x mode skips opening lag Sees' seen' (catalogued o f) (rebuilt-whole mode skips lag line r) (catalogued o' f')
   rebuilds-reduced (Ok b) s =
       let all = s.sees o stored refl (o, refl, sound, sym is) was_seen in
       let v = s.can o refl in
       let k = by_catalogue stored (catalogue_of o) in
-      let whole = record (rebuilt mode skips b.0.view (owed_line mode skips o b.0.view stored) b.0.mark) { segments = b.0.segments } in
-      let line : b.0.line ≡ line_above b.0.view.manifest.last_l0_seq (owed_line mode skips o b.0.view stored) =
-      ap (λ (f : Follower). f.line) all.2 ∙ ap (line_above b.0.view.manifest.last_l0_seq) (owed-is (Some o) o mode skips b.0.view stored all.0 all.1) in
-      let known = sees-known stored (catalogue_of o) (Some o) mode skips opening o b.0 b.1 sound is v all in
+      let whole = with_line mode skips lag b.0 (line b.0) in
+      let known = knows b.0 b.1 v all in
       record {
         kept = kept-known o o' f f' s.kept;
         faults = record { count = s.faults.count; unavailable = λ no. absurd (cc); stays = s.faults.stays };
         missing = λ no. absurd (cc);
         cause = tt;
-        answer = (refl, refl, refl, refl, inl (all.3 ∙ ap (λ l. Whole (end l)) (owed-is (Some o) o mode skips b.0.view stored all.0 all.1)));
+        answer = (refl, refl, refl, refl, refl, known.answers);
         can = λ c at. subst (λ x. IsView mode opening x b.0.view) (some-same (catalogue_of o) c at) (view-known mode opening o b.0.view v);
-        logs = λ c at free reads_logs. subst (λ x. HasAllLogs x whole b.1) (some-same (catalogue_of o) c at) (logs-known o b.0 whole b.1 refl (s.logs o refl free reads_logs));
+        logs = λ c at free reads_logs all_read. subst (λ x. HasAllLogs x whole b.1) (some-same (catalogue_of o) c at) (logs-known o b.0 whole b.1 refl (s.logs o refl free reads_logs all_read));
         sees = λ c line at stored_is seen_before.
-            subst (λ x. SeesOwed k mode skips x line whole b.1) (some-same (catalogue_of o) c at)
-            (subst (λ l. SeesOwed k mode skips (catalogue_of o) l whole b.1) (sym stored_is) known);
+            subst (λ x. Sees' x line whole b.1) (some-same (catalogue_of o) c at)
+            (subst (λ l. Sees' (catalogue_of o) l whole b.1) (sym stored_is) known.sees);
         fits = λ c at. subst (λ x'. RefusesLatest x opening x' None) (some-same (catalogue_of o) c at) (s.fits o refl);
         segmented = λ c line at stored_is _.
             let answer : Follower × PollAnswer = (whole, b.1) in
             subst (λ x'. AreFollowed k x mode skips opening x' line (Ok answer)) (some-same (catalogue_of o) c at)
             (subst (λ l. AreFollowed k x mode skips opening (catalogue_of o) l (Ok answer)) (sym stored_is)
             (followed-ok x stored (catalogue_of o) (Some o) mode skips o sound is opening b answer (s.segmented o stored refl (o, refl, sound, sym is) was_seen)));
-        segments = λ opens. segments-whole x b.0.view.manifest.last_l0_seq b.0.line (owed_line mode skips o b.0.view stored) b.0.segments line (s.segments opens);
+        segments = λ opens. segments-whole x b.0.view.manifest.last_l0_seq b.0.line (line b.0) b.0.segments known.keeps (s.segments opens);
       }
   rebuilds-reduced (Err e) s = record {
     kept = kept-known o o' f f' s.kept;
@@ -509,11 +580,11 @@ module _ (x : Option Extractor) (stored : Line) (mode : DbReaderMode) (skips ope
   }
 
 -- the whole follower after a poll, of which the code keeps a part
-abbrev pub polled-whole : Objects → Line → CloseResult → (pinned : Bool) → Follower → Follower → Result PollAnswer SlateError → Follower
-polled-whole o stored None false a b (Ok answer) = record (rebuilt a.mode a.skips b.view (owed_line a.mode a.skips o b.view stored) b.mark) { segments = b.segments }
-polled-whole o stored closed pinned a b r = a
+abbrev pub polled-whole : Line → CloseResult → (pinned : Bool) → Follower → Follower → Result PollAnswer SlateError → Follower
+polled-whole stored None false a b (Ok answer) = with_line a.mode a.skips a.lag b (up_to (number b) stored)
+polled-whole stored closed pinned a b r = a
 
-pub polls-reduced : (x : Option Extractor) (stored : Line) (r : Result PollAnswer SlateError) (a b : Follower) (o o' : Objects) (f f' : ℕ) → IsSound o → content o ≡ stored → IsPrefix a.line stored → (is_pinned a.mode ≡ false → HasSeen o a) → Polls (by_objects (Some o)) x (kept_follower a) (holding o f) r b (holding o' f') → Polls (by_catalogue stored (catalogue_of o)) x a (catalogued o f) r (polled-whole o stored a.result (is_pinned a.mode) a b r) (catalogued o' f')
+pub polls-reduced : (x : Option Extractor) (stored : Line) (r : Result PollAnswer SlateError) (a b : Follower) (o o' : Objects) (f f' : ℕ) → IsSound o → content o ≡ stored → IsPrefix a.line stored → (is_pinned a.mode ≡ false → HasSeen o a) → Polls (by_objects (Some o)) x (kept_follower a) (holding o f) r b (holding o' f') → Polls (by_catalogue stored (catalogue_of o)) x a (catalogued o f) r (polled-whole stored a.result (is_pinned a.mode) a b r) (catalogued o' f')
 polls-reduced x stored r a b o o' f f' sound is front seen s = record {
   closed = if_some {Q = λ q. (r ≡ Err (closed_error q)) × (catalogued o' f' ≡ catalogued o f)} a.result (λ q c. (c.0, same-known o o' f f' c.1)) s.closed;
   failed = failed-by r;
@@ -522,41 +593,47 @@ polls-reduced x stored r a b o o' f f' sound is front seen s = record {
   rebuilds = λ live free. rebuilt-by r live free (s.rebuilds live free);
   segments = λ had. segments-by had r (λ live free. s.rebuilds live free) (s.segments (had ∙ sym (ap (λ (l : Line). segments_of x l.batches) (line_above-twice a.view.manifest.last_l0_seq a.view.manifest.last_l0_seq a.line (omega arith)))));
 } where
-  failed-by : (r : Result PollAnswer SlateError) → IfErr r (λ e. polled-whole o stored a.result (is_pinned a.mode) a b r ≡ a)
+  failed-by : (r : Result PollAnswer SlateError) → IfErr r (λ e. polled-whole stored a.result (is_pinned a.mode) a b r ≡ a)
   failed-by (Ok answer) = tt
   failed-by (Err e) = by a.result (is_pinned a.mode) where
-    by : (closed : CloseResult) (pinned : Bool) → polled-whole o stored closed pinned a b (Err e) ≡ a
+    by : (closed : CloseResult) (pinned : Bool) → polled-whole stored closed pinned a b (Err e) ≡ a
     by None true = refl
     by None false = refl
     by (Some q) pinned = refl
 
-  pinned-same : a.result ≡ None → is_pinned a.mode ≡ true → (r : Result PollAnswer SlateError) → polled-whole o stored a.result (is_pinned a.mode) a b r ≡ a
-  pinned-same live stays r = ap (λ c. polled-whole o stored c (is_pinned a.mode) a b r) live ∙ (ap (λ p. polled-whole o stored None p a b r) stays ∙ by r) where
-    by : (r : Result PollAnswer SlateError) → polled-whole o stored None true a b r ≡ a
+  pinned-same : a.result ≡ None → is_pinned a.mode ≡ true → (r : Result PollAnswer SlateError) → polled-whole stored a.result (is_pinned a.mode) a b r ≡ a
+  pinned-same live stays r = ap (λ c. polled-whole stored c (is_pinned a.mode) a b r) live ∙ (ap (λ p. polled-whole stored None p a b r) stays ∙ by r) where
+    by : (r : Result PollAnswer SlateError) → polled-whole stored None true a b r ≡ a
     by (Ok answer) = refl
     by (Err e) = refl
 
   Seen : ObjectsOf Span → Line → Type 0
   Seen objects line = Unit {0}
 
-  segments-by : HasSegments x a → (r : Result PollAnswer SlateError) → (a.result ≡ None → is_pinned a.mode ≡ false → Rebuilds (by_objects (Some o)) x a.mode a.skips false (kept_seen (kept_follower a)) (holding o f) (built b r) (holding o' f')) → HasSegments x b →
-      HasSegments x (polled-whole o stored a.result (is_pinned a.mode) a b r)
+  segments-by : HasSegments x a → (r : Result PollAnswer SlateError) → (a.result ≡ None → is_pinned a.mode ≡ false → Rebuilds (by_objects (Some o)) x a.mode a.skips false a.lag (SeesPolled (by_objects (Some o)) (kept_follower a)) (kept_seen (kept_follower a)) (holding o f) (built b r) (holding o' f')) → HasSegments x b →
+      HasSegments x (polled-whole stored a.result (is_pinned a.mode) a b r)
   segments-by had (Err e) rebuilds has = subst (HasSegments x) (sym (failed-by (Err e))) had
   segments-by had (Ok answer) rebuilds has = by a.result (is_pinned a.mode) refl refl where
-    by : (closed : CloseResult) (pinned : Bool) → a.result ≡ closed → is_pinned a.mode ≡ pinned → HasSegments x (polled-whole o stored closed pinned a b (Ok answer))
+    by : (closed : CloseResult) (pinned : Bool) → a.result ≡ closed → is_pinned a.mode ≡ pinned → HasSegments x (polled-whole stored closed pinned a b (Ok answer))
     by (Some q) pinned closed is_it = had
     by None true live stays = had
     by None false live free =
-        let floor = b.view.manifest.last_l0_seq in
-        let all = (rebuilds live free).sees o stored refl (o, refl, sound, sym is) (a, refl, front, seen free) in
-        let line = ap (λ (f : Follower). f.line) all.2 ∙ ap (line_above floor) (owed-is (Some o) o a.mode a.skips b.view stored all.0 all.1) in
-        segments-whole x floor b.line (owed_line a.mode a.skips o b.view stored) b.segments line has
+        let builds = rebuilds live free in
+        let all = builds.sees o stored refl (o, refl, sound, sym is) (a, refl, front, seen free) in
+        let known = polled-by stored a o b answer sound is (builds.can o refl) all in
+        segments-whole x b.view.manifest.last_l0_seq b.line (up_to (number b) stored) b.segments known.keeps has
 
-  rebuilt-by : (r : Result PollAnswer SlateError) → a.result ≡ None → is_pinned a.mode ≡ false → Rebuilds (by_objects (Some o)) x a.mode a.skips false (kept_seen (kept_follower a)) (holding o f) (built b r) (holding o' f') →
-      Rebuilds (by_catalogue stored (catalogue_of o)) x a.mode a.skips false Seen (catalogued o f) (built (polled-whole o stored a.result (is_pinned a.mode) a b r) r) (catalogued o' f')
+  reduced-by : is_pinned a.mode ≡ false → (q : Result (Follower × PollAnswer) SlateError) → Rebuilds (by_objects (Some o)) x a.mode a.skips false a.lag (SeesPolled (by_objects (Some o)) (kept_follower a)) (kept_seen (kept_follower a)) (holding o f) q (holding o' f') →
+      Rebuilds (by_catalogue stored (catalogue_of o)) x a.mode a.skips false a.lag (SeesPolled (by_catalogue stored (catalogue_of o)) a) Seen (catalogued o f) (rebuilt-whole a.mode a.skips a.lag (λ b. up_to (number b) stored) q) (catalogued o' f')
+  reduced-by free q d =
+      rebuilds-reduced x stored a.mode a.skips false a.lag (SeesPolled (by_objects (Some o)) (kept_follower a)) (SeesPolled (by_catalogue stored (catalogue_of o)) a) (kept_seen (kept_follower a)) Seen o o' f f' sound is (a, refl, front, seen free)
+      (λ b. up_to (number b) stored) (λ b answer v all. polled-by stored a o b answer sound is v all) q d
+
+  rebuilt-by : (r : Result PollAnswer SlateError) → a.result ≡ None → is_pinned a.mode ≡ false → Rebuilds (by_objects (Some o)) x a.mode a.skips false a.lag (SeesPolled (by_objects (Some o)) (kept_follower a)) (kept_seen (kept_follower a)) (holding o f) (built b r) (holding o' f') →
+      Rebuilds (by_catalogue stored (catalogue_of o)) x a.mode a.skips false a.lag (SeesPolled (by_catalogue stored (catalogue_of o)) a) Seen (catalogued o f) (built (polled-whole stored a.result (is_pinned a.mode) a b r) r) (catalogued o' f')
   rebuilt-by (Ok answer) live free d =
-      let whole : (closed : CloseResult) (pinned : Bool) → Follower = λ closed pinned. polled-whole o stored closed pinned a b (Ok answer) in
+      let whole : (closed : CloseResult) (pinned : Bool) → Follower = λ closed pinned. polled-whole stored closed pinned a b (Ok answer) in
       let same : whole a.result (is_pinned a.mode) ≡ whole None false = ap (λ c. whole c (is_pinned a.mode)) live ∙ ap (whole None) free in
-      subst (λ w. Rebuilds (by_catalogue stored (catalogue_of o)) x a.mode a.skips false Seen (catalogued o f) (Ok (w, answer)) (catalogued o' f')) (sym same)
-      (rebuilds-reduced x stored a.mode a.skips false (kept_seen (kept_follower a)) Seen o o' f f' sound is (a, refl, front, seen free) (Ok (b, answer)) d)
-  rebuilt-by (Err e) live free d = rebuilds-reduced x stored a.mode a.skips false (kept_seen (kept_follower a)) Seen o o' f f' sound is (a, refl, front, seen free) (Err e) d
+      subst (λ w. Rebuilds (by_catalogue stored (catalogue_of o)) x a.mode a.skips false a.lag (SeesPolled (by_catalogue stored (catalogue_of o)) a) Seen (catalogued o f) (Ok (w, answer)) (catalogued o' f')) (sym same)
+      (reduced-by free (Ok (b, answer)) d)
+  rebuilt-by (Err e) live free d = reduced-by free (Err e) d

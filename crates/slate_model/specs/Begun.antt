@@ -1,9 +1,10 @@
 -- A poll that makes its calls of the store one by one: what it keeps between two of them, and what each leads to.
-use Rattle.std.specs.Prelude.{ℕ, ℤ, ◌+◌, ◌==◌, ◌&&◌, ◌||◌, max, not, nat_le, nat_lt, Bool, true, false, if◌then◌else◌, List, [], ◌++◌, length, Option, Some, None, unwrap_or, Result, Ok, Err}
+use Rattle.std.specs.Prelude.{ℕ, ℤ, ◌+◌, ◌-◌, ◌==◌, ◌&&◌, ◌||◌, map, max, not, nat_le, nat_lt, Bool, true, false, if◌then◌else◌, List, [], ◌++◌, length, Option, Some, None, unwrap_or, Result, Ok, Err}
 use Rattle.slate_types.specs.declared.batches.Batch.{Batch}
 use Rattle.slate_store.specs.declared.objects.Checkpoint.{Checkpoint}
 use Rattle.slate_store.specs.declared.objects.VersionedManifest.{VersionedManifest}
 use Rattle.slate_store.specs.Checkpoints.{Plan, found, to_refresh, to_write}
+use Rattle.slate_store.specs.Objects.{greatest}
 use Rattle.slate_errors.specs.declared.errors.SlateError.{SlateError}
 use Rattle.slate_errors.specs.declared.errors.SlateError.TheVariants as errors
 use Rattle.slate_types.specs.Line.{batches_above}
@@ -20,6 +21,7 @@ pub data Stage : Type 0 where
   ReadsLatest : Stage  -- it reads the latest manifest, by which it is decided
   Puts : (next : VersionedManifest) → (given : Lease) → (replaces : Bool) → Stage  -- it puts a manifest, whose checkpoint gives this lease: another one in place of its own, or its own with another end
   AsksLast : Stage  -- it asks for the last log file above its mark
+  LooksAt : (id : ℕ) → (last : ℕ) → Stage  -- of a reader that may lag it reads log files from the last one downwards, this one next, up to one with a batch that the reader hasn't
   ReadsLog : (last : ℕ) → Stage  -- it reads the log file after its mark; this is the last one
   ReadsAgain : Stage  -- it reads the latest manifest once more, since no log file is above its mark
   Ended : Stage
@@ -180,11 +182,28 @@ abbrev pub overtaken_by : Follower → Begun → Turn
 overtaken_by reader begun =
     if begun.overtaken == 7 then Fails (errors.TransactionalObjectTimeout 8) else Goes (begun_at begun.moment (begun.overtaken + 1) begun.history reader)
 
+-- the log files up to the last one are read next, or looked at, where the reader may lag
+abbrev pub first_log : Follower → (last : ℕ) → Stage
+first_log reader last = if reader.lag == 0 then ReadsLog last else LooksAt last last
+
 -- the last log file was asked for: where there is none above the mark, the latest manifest is read again
-abbrev pub asked_last : (last : ℕ) → Begun → Begun
-asked_last last begun =
-    if nat_lt begun.mark last then record begun { stage = ReadsLog last; history = with_log last begun.history }
+abbrev pub asked_last : Follower → (last : ℕ) → Begun → Begun
+asked_last reader last begun =
+    if nat_lt begun.mark last then record begun { stage = first_log reader last; history = with_log last begun.history }
     else record begun { stage = ReadsAgain }
+
+-- the greatest number of these batches, or 0
+abbrev pub greatest_number : List Batch → ℕ
+greatest_number batches = greatest 0 (map (λ batch. batch.number) batches)
+
+-- A log file was looked at. Where it has a batch that the poll hasn't, the log files are read if that is further than the reader may be
+-- behind; else the one before it is looked at, and where there is none, nothing is new. What was looked at isn't read for that.
+abbrev pub looked_at : Follower → (latest : VersionedManifest) → (id last : ℕ) → List Batch → Begun → Turn
+looked_at reader latest id last batches begun =
+    let newest = greatest_number batches in
+    if nat_lt (reached_number begun + reader.lag) newest then Goes (record begun { stage = ReadsLog last })
+    else (if nat_lt (reached_number begun) newest || id == begun.mark + 1 then replayed latest begun
+    else Goes (record begun { stage = LooksAt (id - 1) last }))
 
 -- The log file after the mark was there, and its batches lead on to these: the next one follows, up to the last.
 abbrev pub read_log : (latest : VersionedManifest) → (last : ℕ) → List Batch → Begun → Turn

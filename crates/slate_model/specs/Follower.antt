@@ -14,6 +14,7 @@ use Rattle.slate_model.specs.Segments.{Extractor, segments_of}
 pub record Follower : Type 0 where
   pub mode : DbReaderMode
   pub skips : Bool  -- whether it sees the tables alone, and reads no log file
+  pub lag : ℕ  -- by how many numbers its polls may leave it behind what is stored
   pub view : VersionedManifest  -- the manifest that it goes by
   pub line : Line  -- the batches that it sees
   pub segments : List (List ℕ)  -- the prefixes of those of them that aren't in the tables of its view, rising
@@ -42,11 +43,12 @@ follower_tasks mode = if is_pinned mode then [] else ManifestPoller ∷ []
 
 -- The open follower that goes by a manifest, sees this line, has what the log files up to a mark have, has no segment and keeps
 -- no checkpoint.
-abbrev pub rebuilt : (mode : DbReaderMode) → (skips : Bool) → VersionedManifest → Line → ℕ → Follower
-rebuilt mode skips view line mark =
+abbrev pub rebuilt : (mode : DbReaderMode) → (skips : Bool) → (lag : ℕ) → VersionedManifest → Line → ℕ → Follower
+rebuilt mode skips lag view line mark =
     record {
       mode = mode;
       skips = skips;
+      lag = lag;
       view = view;
       line = line;
       segments = [];

@@ -20,14 +20,14 @@ use Rattle.slate_model.specs.declared.leases.Lease.{Lease}
 use Rattle.slate_model.specs.Changes.{PartMade, after_part}
 use Rattle.slate_model.specs.Close.{closed_follower, closing_flush, ended, recorded_fault}
 use Rattle.slate_model.specs.Flush.{recorded}
-use Rattle.slate_model.specs.Follow.{AnswersAt, AreFollowed, HasAllLogs, LacksSegment, SeesOwed}
+use Rattle.slate_model.specs.Follow.{AnswersAt, AreFollowed, HasAllLogs, LacksSegment, SeesOwed, SeesPolled}
 use Rattle.slate_model.specs.Followed.{RefusesLatest}
 use Rattle.slate_model.specs.Follower.{Follower, HasSegments, number}
 use Rattle.slate_model.specs.Handle.{CloseResult}
 use Rattle.slate_model.specs.Knowledge.{Knowledge}
 use Rattle.slate_model.specs.Known.{CountsFaults, Known, Untouched}
 use Rattle.slate_model.specs.Segments.{Extractor}
-use Rattle.slate_model.specs.Lease.{lease_refusal, renews_taken, replaces, to_keep, to_take}
+use Rattle.slate_model.specs.Lease.{is_due, lease_refusal, renews_taken, replaces, to_keep, to_take}
 
 -- Why a call with this plan for a checkpoint answers an error, over a store that is modelled. `stands` says that a manifest is
 -- there already under the id of the one that it puts.
@@ -68,46 +68,46 @@ KeepRefusal extractor objects error = ⊥
 abbrev pub follower_under : VersionedManifest → Follower → Follower
 follower_under latest follower = record follower { view = latest; lease = None }
 
--- A reader sees what one that follows the latest manifest, this one, is owed of the line that is stored, and has all log files
--- where it reads them. `seen` says what was seen before.
-pub record SeesLatest {L : Type 0} (k : Knowledge L) (skips : Bool) (seen : Line → Type 0) (latest : VersionedManifest)
+-- A reader sees so what one that follows the latest manifest, this one, is to see of the line that is stored, and has all log files
+-- where it reads them and may not lag. `seen` says what was seen before.
+pub record SeesLatest {L : Type 0} (k : Knowledge L) (skips : Bool) (lag : ℕ) (Sees : ObjectsOf L → Line → Follower → PollAnswer → Type 0) (seen : Line → Type 0) (latest : VersionedManifest)
     (objects : ObjectsOf L) (follower : Follower) (answer : PollAnswer) : Type 0 where
-  pub logs : skips ≡ false → HasAllLogs objects follower answer
-  pub sees : (line : Line) → k.is_stored line → seen line → SeesOwed k ManagedCheckpoint skips objects line (follower_under latest follower) answer
+  pub logs : skips ≡ false → lag ≡ 0 → HasAllLogs objects follower answer
+  pub sees : (line : Line) → k.is_stored line → seen line → Sees objects line (follower_under latest follower) answer
 
 -- it is open, in the mode that was asked for, and the answer gives its number
-abbrev pub IsOpenAt : (skips : Bool) → Follower → PollAnswer → Type 0
-IsOpenAt skips follower answer =
-    (follower.mode ≡ ManagedCheckpoint) × (follower.skips ≡ skips) × (follower.result ≡ None) × AnswersAt (number follower) answer
+abbrev pub IsOpenAt : (skips : Bool) → (lag : ℕ) → Follower → PollAnswer → Type 0
+IsOpenAt skips lag follower answer =
+    (follower.mode ≡ ManagedCheckpoint) × (follower.skips ≡ skips) × (follower.lag ≡ lag) × (follower.result ≡ None) × AnswersAt (number follower) answer
 
 -- nothing was seen before an opening
 abbrev pub unseen_line : Line → Type 0
 unseen_line line = Unit {0}
 
 -- An opening commits a checkpoint with this lifetime, and its reader goes by the manifest that does, under the lease of that.
-pub record Takes {L : Type 0} (k : Knowledge L) (lifetime : ℕ) (skips : Bool) (moment : ℤ) (objects : ObjectsOf L) (follower : Follower) (answer : PollAnswer) (objects' : ObjectsOf L) : Type 0 where
+pub record Takes {L : Type 0} (k : Knowledge L) (lifetime : ℕ) (skips : Bool) (lag : ℕ) (moment : ℤ) (objects : ObjectsOf L) (follower : Follower) (answer : PollAnswer) (objects' : ObjectsOf L) : Type 0 where
   pub given : Lease
   pub plan : PlanIs (to_take lifetime moment) objects (Ok (Some follower.view, given))
   pub leased : follower.lease ≡ Some given
-  pub sees : SeesLatest k skips unseen_line follower.view objects' follower answer
+  pub sees : SeesLatest k skips 0 (SeesOwed k ManagedCheckpoint skips lag) unseen_line follower.view objects' follower answer
 
 -- An opening with options that pass: so many of its changes were made.
-pub record TakesLease {L : Type 0} (k : Knowledge L) (extractor : Option Extractor) (made : ℕ) (lifetime : ℕ) (skips : Bool) (moment : ℤ)
+pub record TakesLease {L : Type 0} (k : Knowledge L) (extractor : Option Extractor) (made : ℕ) (lifetime : ℕ) (skips : Bool) (lag : ℕ) (moment : ℤ)
     (before : Known L) (result : Result (Follower × PollAnswer) SlateError) (after : Known L) : Type 0 where
   pub faults : CountsFaults before.faults after.faults result
   pub puts : WhereModelled (λ o o'. PutsPlanned k.stands (TakeRefusal extractor) (to_take lifetime moment) o result made o') before.objects after.objects
-  pub answers : IfOk result (λ b. IsOpenAt skips b.0 b.1)
-  pub takes : IfOk result (λ b. WhereModelled (λ o o'. Takes k lifetime skips moment o b.0 b.1 o') before.objects after.objects)
+  pub answers : IfOk result (λ b. IsOpenAt skips lag b.0 b.1)
+  pub takes : IfOk result (λ b. WhereModelled (λ o o'. Takes k lifetime skips lag moment o b.0 b.1 o') before.objects after.objects)
   pub fits : IfOk result (λ b. (o : ObjectsOf L) → before.objects ≡ Some o → RefusesLatest extractor true o None)
   pub segmented : (o : ObjectsOf L) (line : Line) → before.objects ≡ Some o → k.is_stored line → AreFollowed k extractor ManagedCheckpoint skips true o line result
   pub segments : IfOk result (λ b. HasSegments extractor b.0)
   pub whole : (key : List ℕ) → result ≡ Err (errors.EmptySegmentPrefix key) → made ≡ 1
 
 -- An opening of a reader that keeps a checkpoint: options that are refused change nothing.
-pub record OpensManaged {L : Type 0} (k : Knowledge L) (extractor : Option Extractor) (made : ℕ) (lifetime interval : ℕ) (skips : Bool) (moment : ℤ)
+pub record OpensManaged {L : Type 0} (k : Knowledge L) (extractor : Option Extractor) (made : ℕ) (lifetime interval : ℕ) (skips : Bool) (lag : ℕ) (moment : ℤ)
     (before : Known L) (result : Result (Follower × PollAnswer) SlateError) (after : Known L) : Type 0 where
   pub refused : IfSome (lease_refusal lifetime interval) (λ error. (result ≡ Err error) × Untouched made before after)
-  pub takes : lease_refusal lifetime interval ≡ None → TakesLease k extractor made lifetime skips moment before result after
+  pub takes : lease_refusal lifetime interval ≡ None → TakesLease k extractor made lifetime skips lag moment before result after
 
 -- what an error of a poll records: itself, but no want of memory
 abbrev pub poll_result : SlateError → CloseResult
@@ -125,7 +125,7 @@ pub record Keeps {L : Type 0} (k : Knowledge L) (lease : Lease) (moment : ℤ) (
   pub plan : to_keep old.view lease moment latest ≡ Ok (next, given)
   pub leased : new.lease ≡ Some given
   pub view : MatchBool (replaces old.view lease moment latest) (next ≡ Some new.view) (new.view ≡ old.view)
-  pub sees : SeesLatest k old.skips (k.has_seen old objects) (unwrap_or next latest) objects' new answer
+  pub sees : SeesLatest k old.skips old.lag (SeesPolled k old) (k.has_seen old objects) (unwrap_or next latest) objects' new answer
 
 -- one that answers an error has the old lease, or the one of its plan, which it committed
 abbrev pub KeepsOrNot : {L : Type 0} → (plan : VersionedManifest → Plan Lease) → (made : ℕ) → Follower → ObjectsOf L → Follower → Type 0
@@ -139,7 +139,7 @@ pub record KeepsLease {L : Type 0} (k : Knowledge L) (extractor : Option Extract
     (before : Known L) (result : Result PollAnswer SlateError) (new : Follower) (after : Known L) : Type 0 where
   pub faults : CountsFaults before.faults after.faults result
   pub puts : WhereModelled (λ o o'. PutsPlanned k.stands (KeepRefusal extractor) (to_keep old.view lease moment) o result made o') before.objects after.objects
-  pub answers : IfOk result (λ answer. IsOpenAt old.skips new answer)
+  pub answers : IfOk result (λ answer. IsOpenAt old.skips old.lag new answer)
   pub keeps : IfOk result (λ answer. WhereModelled (λ o o'. Keeps k lease moment old o new answer o') before.objects after.objects)
   pub failed : IfErr result (λ error. new ≡ record old { lease = new.lease; result = poll_result error })
   pub lapses : IfErr result (λ _. IfSome before.objects (λ o. KeepsOrNot (to_keep old.view lease moment) made old o new))
@@ -189,6 +189,7 @@ pub record PollsTwice {L : Type 0} (k : Knowledge L) (extractor : Option Extract
   pub renews : RenewsTaken old lease moment true before
   pub given : Lease
   pub leased : middle.lease ≡ Some given
+  pub due : is_due moment given ≡ true
   pub faults : CountsFaults between.faults after.faults result
   pub puts : WhereModelled (λ o o'. PutsRenewal k.stands (to_refresh given.id given.lifetime moment middle.view) o result again o') between.objects after.objects
   pub answers : IfOk result (λ a. (a ≡ answer) × (new ≡ middle))

@@ -86,12 +86,12 @@ fn publish_all<R: Wait>(
 }
 
 /// Views again and again, the first time before it passes the gate, until it views the last number: how often the number
-/// fell, and the last one. It ends after a million views.
+/// fell, and the last one. It ends after a thousand million views.
 fn follow<R: Wait>(rt: &R, gate: &Barrier, mut reader: FollowerReader) -> (u64, u64) {
     let mut last = reader.view().number();
     let mut falls: u64 = 0;
     let _ = gate.wait(rt);
-    for _ in 0..1_000_000 {
+    for _ in 0..1_000_000_000 {
         let number = reader.view().number();
         if number < last {
             falls = falls.saturating_add(1);

@@ -3,3 +3,4 @@ pub mod Replaying
 pub mod Recovered
 pub mod Reading
 pub mod Logged
+pub mod Looking

@@ -39,12 +39,12 @@ use Rattle.slate_route.specs.declared.answers.Added.{Added}
 use Rattle.slate_route.specs.declared.answers.RouteRefusal.{RouteRefusal}
 use Rattle.slate_route.specs.declared.answers.RouteRefusal.TheVariants as refusals
 use Rattle.slate_route.specs.Reading.{Adds, is_open, most_readers, opening_refusal}
-use Rattle.slate_route.specs.Standing.{AddEnds, AddLeads, AreAt, Grows, RoutesOver, opens_at, routing}
+use Rattle.slate_route.specs.Standing.{AddEnds, AddLeads, AreAt, Grows, IsRouted, RoutesOver, opens_at, routing}
 use Rattle.slate_route.specs.Turns.{OpensReader, reader_of}
 use Rattle.slate_route.proofs.Turning.{stands-of}
 
 -- ---- one reader more
-module _ (objects : List Object) (places : List ℕ) (readers : List Follower) (a : AreAt objects places readers) (reader : Follower) (managed : (is_managed reader.mode ≡ true) × (reader.skips ≡ false)) where
+module _ (objects : List Object) (places : List ℕ) (readers : List Follower) (a : AreAt objects places readers) (reader : Follower) (managed : IsRouted reader) where
   abbrev n : ℕ
   n = length objects
 
@@ -82,24 +82,24 @@ module _ (objects : List Object) (places : List ℕ) (readers : List Follower) (
     ];
     managed = λ i f is. elim (get-push readers reader f i is) [
       | inl was ↦ a.managed i f was
-      | inr last ↦ subst (λ (g : Follower). (is_managed g.mode ≡ true) × (g.skips ≡ false)) last.1 managed
+      | inr last ↦ subst IsRouted last.1 managed
     ];
   }
 
 -- ---- an opening that answered a reader
-module _ {made lifetime interval : ℕ} {moment : ℤ} {store store' : Known (List Batch)} (b : Follower × PollAnswer) (opens : OpensManaged (by_objects store.objects) None made lifetime interval false moment store (Ok b) store') where
+module _ {made lifetime interval : ℕ} {moment : ℤ} {store store' : Known (List Batch)} (b : Follower × PollAnswer) (opens : OpensManaged (by_objects store.objects) None made lifetime interval false 0 moment store (Ok b) store') where
   passes : lease_refusal lifetime interval ≡ None
   passes = by-option (lease_refusal lifetime interval) (λ none. none)
       (λ error is. absurd (let refused = (some-of (λ e. (◌≡◌ {A = Result (Follower × PollAnswer) SlateError} (Ok b) (Err e)) × Untouched made store store') (lease_refusal lifetime interval) error is opens.refused).0 in cc))
 
-  takes : TakesLease (by_objects store.objects) None made lifetime false moment store (Ok b) store'
+  takes : TakesLease (by_objects store.objects) None made lifetime false 0 moment store (Ok b) store'
   takes = opens.takes passes
 
-  pub opened-managed : (is_managed (b.0).mode ≡ true) × ((b.0).skips ≡ false)
-  opened-managed = (ap is_managed (takes.answers).0, (takes.answers).1)
+  pub opened-managed : IsRouted b.0
+  opened-managed = (ap is_managed (takes.answers).0, (takes.answers).1, (takes.answers).2)
 
   pub opened-open : (b.0).result ≡ None
-  opened-open = (takes.answers).2
+  opened-open = (takes.answers).3
 
   -- over an honest store it sees all that is stored
   pub opened-end : (live : Live) (places : List ℕ) (readers : List Follower) (w : World) → RoutesOver live store places readers w → (number b.0 ≡ end w.stored) × (b.1 ≡ answers.Whole (number b.0))
@@ -109,7 +109,7 @@ module _ {made lifetime interval : ℕ} {moment : ℤ} {store store' : Known (Li
       let t = takes.takes.some o (r.held).1 in
       let stored : IsContent store.objects (content o) = (o, (r.held).1, (r.held).2, refl) in
       let all = ((t.2).sees).sees (content o) stored tt in
-      let numbers = answered (takes.answers).3 all.3 in
+      let numbers = answered (takes.answers).4 all.3 in
       (numbers ∙ (ap end all.1 ∙ ap end ((r.held).3).stored), all.3 ∙ ap answers.Whole (sym numbers))
     where
       answered : {m : ℕ} → AnswersAt (number b.0) b.1 → b.1 ≡ answers.Whole m → number b.0 ≡ m
@@ -140,7 +140,7 @@ module _ (merge : Option Merge) (live : Live) (store store' : Known (List Batch)
       let same : length live.objects ≡ length w.objects = ap (λ os. length os) (r.represents).objects ∙ length-map w.objects kept in
       absurd (omega (arith, below, same))
 
-  pub add-leads : (b : Follower × PollAnswer) → OpensManaged (by_objects store.objects) None made lifetime interval false moment store (Ok b) store' →
+  pub add-leads : (b : Follower × PollAnswer) → OpensManaged (by_objects store.objects) None made lifetime interval false 0 moment store (Ok b) store' →
       OpenLeads settings live w command (replies.Follower (length live.objects) true (number b.0)) (record live { objects = live.objects ++ AFollower b.0 ∷ [] }) (places ++ length live.objects ∷ []) (readers ++ b.0 ∷ []) store'
   add-leads b opens =
       let n = length live.objects in
@@ -148,7 +148,7 @@ module _ (merge : Option Merge) (live : Live) (store store' : Known (List Batch)
       let ended = opened-end b opens live places readers w over in
       let reply : Reply = replies.Follower n true (number b.0) in
       let replied : reply ≡ followed_reply n b.1 = sym (ap (followed_reply n) ended.1) in
-      let does = opens-follower (by_objects store.objects) settings ManagedCheckpoint (Some (lifetime, interval)) false moment b live.objects next.objects live.writes store store' reply replied refl lifetime interval refl refl moment refl (λ no. absurd (cc)) (λ is. (made, opens)) in
+      let does = opens-follower (by_objects store.objects) settings ManagedCheckpoint (Some (lifetime, interval)) false 0 moment b live.objects next.objects live.writes store store' reply replied refl lifetime interval refl refl moment refl (λ no. absurd (cc)) (λ is. (made, opens)) in
       let led = linked settings command live next store store' reply refl (does, are-kept command.action live.polls live.polls (λ m. refl) (same-polls live.polls live.polls refl)) (λ m f begins. absurd (let no = begins in cc)) w over.represents over.segments in
       record {
         world = led.0;
@@ -165,10 +165,10 @@ module _ (merge : Option Merge) (live : Live) (store store' : Known (List Batch)
         stored = (next-whole settings w command reply led.0 refl (led.1).next).stored;
       }
 
-  pub refuse-leads : (error : SlateError) → OpensManaged (by_objects store.objects) None made lifetime interval false moment store (Err error) store' →
+  pub refuse-leads : (error : SlateError) → OpensManaged (by_objects store.objects) None made lifetime interval false 0 moment store (Err error) store' →
       OpenLeads settings live w command (refusal error) live places readers store'
   refuse-leads error opens =
-      let does = refuses-follower (by_objects store.objects) settings ManagedCheckpoint (Some (lifetime, interval)) false moment error live.objects live.writes store store' (refusal error) refl lifetime interval refl refl moment refl (λ no. absurd (cc)) (λ is. (made, opens)) in
+      let does = refuses-follower (by_objects store.objects) settings ManagedCheckpoint (Some (lifetime, interval)) false 0 moment error live.objects live.writes store store' (refusal error) refl lifetime interval refl refl moment refl (λ no. absurd (cc)) (λ is. (made, opens)) in
       let led = linked settings command live live store store' (refusal error) refl (does, are-kept command.action live.polls live.polls (λ m. refl) (same-polls live.polls live.polls refl)) (λ m f begins. absurd (let no = begins in cc)) w over.represents over.segments in
       record {
         world = led.0;
@@ -189,7 +189,7 @@ module _ (merge : Option Merge) (live : Live) (store store' : Known (List Batch)
   abbrev Left : List Follower → Result Added RouteRefusal → Known (List Batch) → Type 0
   Left new result after = AddLeads (routing merge live) moment lifetime interval live places w new result after
 
-  added-by : (b : Follower × PollAnswer) (made : ℕ) → OpensManaged (by_objects store.objects) None made lifetime interval false moment store (Ok b) store' → (added : Added) → added.at ≡ number b.0 → Left (readers ++ b.0 ∷ []) (Ok added) store'
+  added-by : (b : Follower × PollAnswer) (made : ℕ) → OpensManaged (by_objects store.objects) None made lifetime interval false 0 moment store (Ok b) store' → (added : Added) → added.at ≡ number b.0 → Left (readers ++ b.0 ∷ []) (Ok added) store'
   added-by b made opens added at =
       let l = add-leads merge live store store' places readers w over made lifetime interval moment b opens in
       let sees = (opened-end b opens live places readers w over).0 in
@@ -202,7 +202,7 @@ module _ (merge : Option Merge) (live : Live) (store store' : Known (List Batch)
         ends = (subst (λ k. Link (routing merge live) w (opens_at moment lifetime interval) (replies.Follower (length live.objects) true k) l.world) (sym at) l.link, at ∙ sees);
       }
 
-  refused-by : (error : SlateError) (made : ℕ) → OpensManaged (by_objects store.objects) None made lifetime interval false moment store (Err error) store' → Left readers (Err (opening_refusal error)) store'
+  refused-by : (error : SlateError) (made : ℕ) → OpensManaged (by_objects store.objects) None made lifetime interval false 0 moment store (Err error) store' → Left readers (Err (opening_refusal error)) store'
   refused-by error made opens =
       let l = refuse-leads merge live store store' places readers w over made lifetime interval moment error opens in
       record {
@@ -216,7 +216,7 @@ module _ (merge : Option Merge) (live : Live) (store store' : Known (List Batch)
 
   pub opening-adds : (reader : Follower) → OpensReader moment lifetime interval store (Ok reader) store' → (added : Added) → added.at ≡ number reader → Left (readers ++ reader ∷ []) (Ok added) store'
   opening-adds reader o added at = by o.opened o.result_is (o.opens).0 (o.opens).1 where
-    by : (opened : Result (Follower × PollAnswer) SlateError) → Ok reader ≡ reader_of opened → (made : ℕ) → OpensManaged (by_objects store.objects) None made lifetime interval false moment store opened store' → Left (readers ++ reader ∷ []) (Ok added) store'
+    by : (opened : Result (Follower × PollAnswer) SlateError) → Ok reader ≡ reader_of opened → (made : ℕ) → OpensManaged (by_objects store.objects) None made lifetime interval false 0 moment store opened store' → Left (readers ++ reader ∷ []) (Ok added) store'
     by (Ok b) is made opens =
         let it : b.0 ≡ reader = cc in
         subst (λ (f : Follower). Left (readers ++ f ∷ []) (Ok added) store') it (added-by b made opens added (at ∙ ap number (sym it)))
@@ -224,7 +224,7 @@ module _ (merge : Option Merge) (live : Live) (store store' : Known (List Batch)
 
   pub opening-refused : (refused : RouteRefusal) → OpensReader moment lifetime interval store (Err refused) store' → Left readers (Err refused) store'
   opening-refused refused o = by o.opened o.result_is (o.opens).0 (o.opens).1 where
-    by : (opened : Result (Follower × PollAnswer) SlateError) → Err refused ≡ reader_of opened → (made : ℕ) → OpensManaged (by_objects store.objects) None made lifetime interval false moment store opened store' → Left readers (Err refused) store'
+    by : (opened : Result (Follower × PollAnswer) SlateError) → Err refused ≡ reader_of opened → (made : ℕ) → OpensManaged (by_objects store.objects) None made lifetime interval false 0 moment store opened store' → Left readers (Err refused) store'
     by (Ok b) is made opens = absurd (cc)
     by (Err error) is made opens =
         let it : opening_refusal error ≡ refused = cc in

@@ -1,5 +1,5 @@
 -- A poll of one reader of a router, and a read and an opening of one, are steps of the world to which they belong.
-use Rattle.std.proofs.Common.{◌≡◌, ◌≢◌, ◌∙◌, inl, inr, ℕ, ℤ, true, false, List, map, set, Option, Some, None, Result, Ok, Err, refl, sym, subst, ap}
+use Rattle.std.proofs.Common.{◌≡◌, ◌≢◌, ◌∙◌, inl, inr, ℕ, ℤ, true, false, List, map, set, Option, Some, None, Result, Ok, Err, refl, sym, subst, ap, arith}
 use Rattle.std.specs.List.{slice_get}
 use Rattle.std.specs.Option.{is_some, option_map, unwrap_or}
 use Rattle.std.specs.Prelude.{IfOk}
@@ -11,16 +11,17 @@ use Rattle.slate_types.specs.Line.{IsPrefix, end}
 use Rattle.slate_types.specs.Operator.{Merge}
 use Rattle.slate_store.specs.Content.{content}
 use Rattle.slate_store.specs.Objects.{Objects}
+use Rattle.slate_store.specs.declared.objects.VersionedManifest.{VersionedManifest}
 use Rattle.slate_store.specs.declared.reader_modes.DbReaderMode.TheVariants.{ManagedCheckpoint}
 use Rattle.slate_errors.specs.declared.errors.SlateError.{SlateError}
 use Rattle.slate_errors.specs.declared.errors.SlateError.TheVariants as errors
 use Rattle.slate_model.specs.declared.answers.PollAnswer.{PollAnswer}
 use Rattle.slate_model.specs.declared.answers.PollAnswer.TheVariants as answers
 use Rattle.slate_model.specs.declared.leases.Lease.{Lease}
-use Rattle.slate_model.specs.Follow.{AnswersAt, IsOwed}
+use Rattle.slate_model.specs.Follow.{AnswersAt, IsOwed, SeesPolled}
 use Rattle.slate_model.specs.Follower.{Follower, is_managed, kept_follower, number}
 use Rattle.slate_model.specs.Known.{IsContent, Known}
-use Rattle.slate_model.specs.Managed.{KeepsLease, PollsLeased, PollsManaged}
+use Rattle.slate_model.specs.Managed.{KeepsLease, PollsLeased, PollsManaged, follower_under}
 use Rattle.slate_model.specs.Object.{Object, Follower as AFollower, Handle as AHandle, Snapshot as ASnapshot, kept}
 use Rattle.slate_model.specs.Stores.{by_objects, kept_seen}
 use Rattle.slate_script.specs.declared.commands.Action.TheVariants as actions
@@ -40,9 +41,9 @@ use Rattle.slate_live.proofs.Begun.{are-same_named}
 use Rattle.slate_live.proofs.Doing.{acts_on}
 use Rattle.slate_live.proofs.Linking.{linked}
 use Rattle.slate_live.proofs.Places.{get-map, get-set_other, get-set_same}
-use Rattle.slate_live.proofs.Rising.{managed-free}
+use Rattle.slate_live.proofs.Rising.{managed-free, managed-mode}
 use Rattle.slate_live.proofs.Wholes.{next-whole}
-use Rattle.slate_route.specs.Standing.{AreAt, LeavesOthers, RoutesOver, command_at, routing}
+use Rattle.slate_route.specs.Standing.{AreAt, IsRouted, LeavesOthers, RoutesOver, command_at, routing}
 
 -- ---- readers at their places
 -- the reader of a world of which a live object is what is kept
@@ -60,7 +61,7 @@ whole-at xs n f at = by (slice_get xs n) refl (sym (get-map kept xs n) ∙ at) w
   by (Some (ASnapshot s)) is same = absurd (cc)
 
 -- one reader is another
-module _ (objects : List Object) (places : List ℕ) (readers : List Follower) (a : AreAt objects places readers) (i n : ℕ) (named : slice_get places i ≡ Some n) (reader left : Follower) (there : slice_get readers i ≡ Some reader) (managed : (is_managed left.mode ≡ true) × (left.skips ≡ false)) where
+module _ (objects : List Object) (places : List ℕ) (readers : List Follower) (a : AreAt objects places readers) (i n : ℕ) (named : slice_get places i ≡ Some n) (reader left : Follower) (there : slice_get readers i ≡ Some reader) (managed : IsRouted left) where
   pub object-there : slice_get objects n ≡ Some (AFollower reader)
   object-there = a.there i n reader named there
 
@@ -84,13 +85,13 @@ module _ (objects : List Object) (places : List ℕ) (readers : List Follower) (
       | inl same ↦
           let mine : slice_get (set readers i left) i ≡ Some f = subst (λ k. slice_get (set readers i left) k ≡ Some f) same is in
           let it : left ≡ f = (let p = get-set_same readers i left reader there in cc) in
-          subst (λ (g : Follower). (is_managed g.mode ≡ true) × (g.skips ≡ false)) it managed
+          subst IsRouted it managed
       | inr other ↦ a.managed j f (sym (get-set_other readers i j left other) ∙ is)
     ];
   }
 
 -- ---- what a poll of a reader that keeps a checkpoint leaves of it over an honest store
-module _ (live : Live) (store store' : Known (List Batch)) (w : World) (r : RepresentsObjects live store w) (n : ℕ) (reader : Follower) (whole : WholeAt w.objects n reader) (managed : is_managed reader.mode ≡ true) (reads : reader.skips ≡ false) (opened : reader.result ≡ None) (made : ℕ) (moment : ℤ) (answer : PollAnswer) (left : Follower) where
+module _ (live : Live) (store store' : Known (List Batch)) (w : World) (r : RepresentsObjects live store w) (n : ℕ) (reader : Follower) (whole : WholeAt w.objects n reader) (managed : is_managed reader.mode ≡ true) (reads : reader.skips ≡ false) (lags : reader.lag ≡ 0) (opened : reader.result ≡ None) (made : ℕ) (moment : ℤ) (answer : PollAnswer) (left : Follower) where
   abbrev o : Objects
   o = (r.held).0
 
@@ -99,6 +100,18 @@ module _ (live : Live) (store store' : Known (List Batch)) (w : World) (r : Repr
 
   prefix-of : IsPrefix (whole.whole).line (content o)
   prefix-of = subst (IsPrefix (whole.whole).line) (sym ((r.held).3).stored) (r.valid.followers n whole.whole whole.at).0
+
+  -- one that may not lag sees all that is stored
+  seen-end : (o' : Objects) (latest : VersionedManifest) (said : PollAnswer) (middle : Follower) → AnswersAt (number middle) said → SeesPolled (by_objects store.objects) reader o' (content o) (follower_under latest middle) said → number middle ≡ end w.stored
+  seen-end o' latest said middle at (inl (all, catches)) =
+      let by_mode = subst (λ m. IsOwed (by_objects store.objects) m reader.skips o' latest (content o) all.0) (managed-mode reader.mode managed) all.1 in
+      let owed : all.0 ≡ content o = subst (λ s. IsOwed (by_objects store.objects) ManagedCheckpoint s o' latest (content o) all.0) reads by_mode in
+      answered at all.3 ∙ (ap end owed ∙ ap end ((r.held).3).stored)
+    where
+      answered : {m : ℕ} → AnswersAt (number middle) said → said ≡ answers.Whole m → number middle ≡ m
+      answered (inl is) all = cc
+      answered (inr is) all = absurd (cc)
+  seen-end o' latest said middle at (inr stays) = absurd (let may = stays.may in omega (arith, may, lags))
 
   -- a round of one that answers leaves the reader open, and it sees all that is stored
   round-end : (first : ℕ) (lease : Lease) (said : PollAnswer) (middle : Follower) (between : Known (List Batch)) → KeepsLease (by_objects store.objects) None first lease moment reader store (Ok said) middle between →
@@ -109,12 +122,7 @@ module _ (live : Live) (store store' : Known (List Batch)) (w : World) (r : Repr
       let seen : kept_seen reader o line = (whole.whole, sym whole.kept, prefix-of, (((r.held).4 n (AFollower whole.whole) whole.at).1 (managed-free (whole.whole).mode whole-managed))) in
       let stored : IsContent store.objects line = (o, (r.held).1, (r.held).2, refl) in
       let all = ((t.2).sees).sees line stored seen in
-      let owed : all.0 ≡ line = subst (λ s. IsOwed (by_objects store.objects) ManagedCheckpoint s t.0 (unwrap_or (t.2).next (t.2).latest) line all.0) reads all.1 in
-      ((k.answers).2, answered (k.answers).3 all.3 ∙ (ap end owed ∙ ap end ((r.held).3).stored))
-    where
-      answered : {m : ℕ} → AnswersAt (number middle) said → said ≡ answers.Whole m → number middle ≡ m
-      answered (inl is) all = cc
-      answered (inr is) all = absurd (cc)
+      ((k.answers).3, seen-end t.0 (unwrap_or (t.2).next (t.2).latest) said middle (k.answers).4 all)
 
   -- A managed poll is looked at here alone: once it answers, the reader is open and sees all that is stored.
   pub polled-end : PollsManaged (by_objects store.objects) None made moment reader store (Ok answer) left store' → (left.result ≡ None) × (number left ≡ end w.stored)
@@ -162,7 +170,7 @@ module _ (merge : Option Merge) (base live : Live) (same : live.options ≡ base
   abbrev next : Live
   next = record live { objects = set live.objects n (AFollower left) }
 
-  managed : (is_managed reader.mode ≡ true) × (reader.skips ≡ false)
+  managed : IsRouted reader
   managed = (over.are_at).managed i reader there
 
   object : slice_get live.objects n ≡ Some (AFollower reader)
@@ -185,17 +193,18 @@ module _ (merge : Option Merge) (base live : Live) (same : live.options ≡ base
   kept-left : WholeAt (led.0).objects n left
   kept-left = whole-at (led.0).objects n left (subst (λ os. slice_get os n ≡ Some (AFollower left)) ((led.2).represents).objects (get-set_same live.objects n (AFollower left) (AFollower reader) object))
 
-  still-managed : (is_managed left.mode ≡ true) × (left.skips ≡ false)
+  still-managed : IsRouted left
   still-managed = by rise.0 rise.1 rise.2 where
     rise : (new : Object) × (slice_get (led.0).objects n ≡ Some new) × Rises (AFollower whole.whole) new
     rise = (led.1).rises n (AFollower whole.whole) whole.at
 
-    by : (new : Object) → slice_get (led.0).objects n ≡ Some new → Rises (AFollower whole.whole) new → (is_managed left.mode ≡ true) × (left.skips ≡ false)
+    by : (new : Object) → slice_get (led.0).objects n ≡ Some new → Rises (AFollower whole.whole) new → IsRouted left
     by (AFollower g) at rises =
         let it : g ≡ kept-left.whole = (let p = kept-left.at in cc) in
         let f : kept_follower g ≡ left = ap kept_follower it ∙ kept-left.kept in (
           ap (λ (x : Follower). is_managed x.mode) (sym f) ∙ (ap is_managed rises.mode ∙ (ap (λ (x : Follower). is_managed x.mode) whole.kept ∙ managed.0)),
           ap (λ (x : Follower). x.skips) (sym f) ∙ (rises.skips ∙ (ap (λ (x : Follower). x.skips) whole.kept ∙ managed.1)),
+          ap (λ (x : Follower). x.lag) (sym f) ∙ (rises.lag ∙ (ap (λ (x : Follower). x.lag) whole.kept ∙ managed.2)),
         )
     by (AHandle h) at rises = absurd rises
     by (ASnapshot s) at rises = absurd rises
@@ -206,7 +215,7 @@ module _ (merge : Option Merge) (base live : Live) (same : live.options ≡ base
 
   ended : (r : Result PollAnswer SlateError) → result ≡ r → IfOk r (λ _. (left.result ≡ None) × (number left ≡ end w.stored))
   ended (Ok answer) is =
-      polled-end live store store' w (over.represents).represents n reader whole managed.0 managed.1 opened made moment answer left
+      polled-end live store store' w (over.represents).represents n reader whole managed.0 managed.1 managed.2 opened made moment answer left
       (subst (λ (r : Result PollAnswer SlateError). PollsManaged (by_objects store.objects) None made moment reader store r left store') is polls)
   ended (Err error) is = tt
 

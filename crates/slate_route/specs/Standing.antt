@@ -38,13 +38,16 @@ use Rattle.slate_route.specs.declared.answers.Routed.{Routed}
 use Rattle.slate_route.specs.Reading.{Passes, first_covering, is_open, of_open}
 
 -- ---- a router beside the objects of a program
--- A router's readers are the objects with these numbers, each with one of its own. Each keeps a checkpoint of its own, and reads log
--- files.
+-- a reader keeps a checkpoint of its own, reads log files, and may not lag
+abbrev pub IsRouted : Follower → Type 0
+IsRouted reader = (is_managed reader.mode ≡ true) × (reader.skips ≡ false) × (reader.lag ≡ 0)
+
+-- A router's readers are the objects with these numbers, each with one of its own.
 pub record AreAt (objects : List Object) (places : List ℕ) (readers : List Follower) : Type 0 where
   pub count : length places ≡ length readers
   pub there : (i n : ℕ) (reader : Follower) → slice_get places i ≡ Some n → slice_get readers i ≡ Some reader → slice_get objects n ≡ Some (AFollower reader)
   pub distinct : (i j n : ℕ) → slice_get places i ≡ Some n → slice_get places j ≡ Some n → i ≡ j
-  pub managed : (i : ℕ) (reader : Follower) → slice_get readers i ≡ Some reader → (is_managed reader.mode ≡ true) × (reader.skips ≡ false)
+  pub managed : (i : ℕ) (reader : Follower) → slice_get readers i ≡ Some reader → IsRouted reader
 
 -- Live objects, the router's readers among them, and an honest store represent a world. No poll of one of them by single calls is begun.
 pub record RoutesOver (live : Live) (store : Known (List Batch)) (places : List ℕ) (readers : List Follower) (w : World) : Type 0 where
@@ -159,7 +162,7 @@ pub record ReadLeads (settings : Settings) (moment : ℤ) (key : List ℕ) (at_l
 
 -- ---- an opening
 abbrev pub opens_at : ℤ → (lifetime interval : ℕ) → Command
-opens_at moment lifetime interval = command_at moment (actions.Follow ManagedCheckpoint (Some (lifetime, interval)) false)
+opens_at moment lifetime interval = command_at moment (actions.Follow ManagedCheckpoint (Some (lifetime, interval)) false None)
 
 -- the places of a router's readers after that, where this is the next object's number
 abbrev pub places_after : List ℕ → (n : ℕ) → Result Added RouteRefusal → List ℕ

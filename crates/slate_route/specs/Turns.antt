@@ -93,4 +93,4 @@ pub record OpensReader (moment : ℤ) (lifetime interval : ℕ) (before : Known 
   pub result_is : result ≡ reader_of opened
   pub faults : FaultsRise before.faults after.faults opened
   pub kind : IfErr opened (IsOfOpening ManagedCheckpoint)
-  pub opens : (made : ℕ) × OpensManaged (by_objects before.objects) None made lifetime interval false moment before opened after
+  pub opens : (made : ℕ) × OpensManaged (by_objects before.objects) None made lifetime interval false 0 moment before opened after

@@ -81,34 +81,40 @@ close_form (o ∷ t ∷ []) = do
   Some (actions.Close object (Some options))
 close_form fields = None
 
--- `skip` as the last field, or nothing
-abbrev pub skip_of : List (List ℕ) → Option Bool
-skip_of [] = Some false
-skip_of (word ∷ []) = if bytes_eq word (codes "skip") then Some true else None
-skip_of fields = None
+-- `lag N` as the last fields, or nothing
+abbrev pub lag_of : List (List ℕ) → Option (Option ℕ)
+lag_of [] = Some None
+lag_of (word ∷ n ∷ []) = if bytes_eq word (codes "lag") then option_map (λ lag. Some lag) (number_of n) else None
+lag_of fields = None
 
--- follow pinned ID, follow pinned ID skip: the checkpoint that the manifest with this id commits
+-- `skip` and then `lag N`, either or neither: whether a reader skips log files, and by how many numbers it may lag
+abbrev pub reading_of : List (List ℕ) → Option (Bool × Option ℕ)
+reading_of [] = Some (false, None)
+reading_of (word ∷ fields) =
+    if bytes_eq word (codes "skip") then option_map (λ lag. (true, lag)) (lag_of fields) else option_map (λ lag. (false, lag)) (lag_of (word ∷ fields))
+
+-- follow pinned ID, with those behind it: the checkpoint that the manifest with this id commits
 abbrev pub pinned_form : List (List ℕ) → Option Action
 pinned_form [] = None
 pinned_form (i ∷ fields) = do
   id ← number_of i
-  skip ← skip_of fields
-  Some (actions.Follow (Checkpoint (checkpoint_id id)) None skip)
+  reading ← reading_of fields
+  Some (actions.Follow (Checkpoint (checkpoint_id id)) None reading.0 reading.1)
 
--- follow managed LIFETIME INTERVAL, follow managed LIFETIME INTERVAL skip: of a checkpoint of its own, in milliseconds
+-- follow managed LIFETIME INTERVAL, with those behind it: of a checkpoint of its own, in milliseconds
 abbrev pub managed_form : List (List ℕ) → Option Action
 managed_form (l ∷ i ∷ fields) = do
   lifetime ← number_of l
   interval ← number_of i
-  skip ← skip_of fields
-  Some (actions.Follow ManagedCheckpoint (Some (lifetime, interval)) skip)
+  reading ← reading_of fields
+  Some (actions.Follow ManagedCheckpoint (Some (lifetime, interval)) reading.0 reading.1)
 managed_form fields = None
 
--- follow latest, follow latest skip, or one of the forms of a pinned reader and of one that keeps a checkpoint of its own
+-- follow latest, with those behind it, or one of the forms of a pinned reader and of one that keeps a checkpoint of its own
 abbrev pub follow_form : List (List ℕ) → Option Action
 follow_form [] = None
 follow_form (m ∷ fields) =
-    if bytes_eq m (codes "latest") then option_map (λ skip. actions.Follow FollowLatest None skip) (skip_of fields)
+    if bytes_eq m (codes "latest") then option_map (λ reading. actions.Follow FollowLatest None reading.0 reading.1) (reading_of fields)
     else (if bytes_eq m (codes "pinned") then pinned_form fields
     else (if bytes_eq m (codes "managed") then managed_form fields else None))
 

@@ -46,7 +46,7 @@ turns seed (suc number) = turns seed number ++ turn seed (number + 1)
 
 -- a handle, and a reader of the latest state
 abbrev pub openings : List Command
-openings = timed 0 (actions.Open true) ∷ timed 0 (actions.Follow FollowLatest None false) ∷ []
+openings = timed 0 (actions.Open true) ∷ timed 0 (actions.Follow FollowLatest None false None) ∷ []
 
 -- the last flush, and what is read then
 abbrev pub ending : ℕ → List Command

@@ -92,11 +92,13 @@ pub enum Action {
         options: Option<CloseOptions>,
     },
     /// Opens a reader that follows the database; one that skips reads no log file. A managed one has the lifetime of
-    /// its checkpoint and the interval of its polls, in milliseconds.
+    /// its checkpoint and the interval of its polls, in milliseconds. By so many numbers its polls may leave it behind what is
+    /// stored: none, where that isn't said.
     Follow {
         mode: DbReaderMode,
         managed: Option<(u64, u64)>,
         skip: bool,
+        lag: Option<u64>,
     },
     /// Lets a reader take all that is stored.
     Poll {

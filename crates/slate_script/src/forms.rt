@@ -2,7 +2,7 @@
 ghost use Rattle.std.specs.Prelude.{◌≡◌, IfOk, IfSome};
 ghost use Rattle.slate_script.specs.declared.commands.Command.{Command};
 ghost use Rattle.slate_script.specs.Forms.{wal_of, open_form, flush_type_of, flush_form, one_number, checkpoint_form, sweep_form, close_options_of, close_form};
-ghost use Rattle.slate_script.specs.Forms.{skip_of, pinned_form, managed_form, follow_form, reader_of, other_of, action_of, command_of, line_of};
+ghost use Rattle.slate_script.specs.Forms.{lag_of, reading_of, pinned_form, managed_form, follow_form, reader_of, other_of, action_of, command_of, line_of};
 
 use crate::lines::read_line_of;
 use crate::lookups::read_lookup;
@@ -149,14 +149,33 @@ fn read_close(fields: &[Bytes]) -> Option<Action>
     }
 }
 
-/// Whether a reader skips log files: `skip` as the last field, or nothing.
-fn read_skip(fields: &[Bytes]) -> Option<bool>
-    ensures { result ≡ skip_of fields.now }
+/// By how many numbers a reader may lag: `lag N` as the last fields, or nothing.
+fn read_lag(fields: &[Bytes]) -> Option<Option<u64>>
+    ensures { result ≡ lag_of fields.now }
 {
     match fields {
-        [] => Some(false),
-        [word] if word.as_slice() == b"skip".as_slice() => Some(true),
+        [] => Some(None),
+        [word, number] if word.as_slice() == b"lag".as_slice() => {
+            let number = read_number(number.as_slice())?;
+            Some(Some(number))
+        }
         _ => None,
+    }
+}
+
+/// Whether a reader skips log files, and by how many numbers it may lag: `skip` and then `lag N`, either or neither.
+fn read_reading(fields: &[Bytes]) -> Option<(bool, Option<u64>)>
+    ensures { result ≡ reading_of fields.now }
+{
+    match fields {
+        [word, behind @ ..] if word.as_slice() == b"skip".as_slice() => {
+            let lag = read_lag(behind)?;
+            Some((true, lag))
+        }
+        _ => {
+            let lag = read_lag(fields)?;
+            Some((false, lag))
+        }
     }
 }
 
@@ -169,11 +188,12 @@ fn read_pinned(fields: &[Bytes]) -> Option<Action>
         return None;
     };
     let id = read_number(id.as_slice())?;
-    let skip = read_skip(behind)?;
+    let (skip, lag) = read_reading(behind)?;
     Some(Action::Follow {
         mode: DbReaderMode::Checkpoint(Uuid::from_u128(u128::from(id))),
         managed: None,
         skip,
+        lag,
     })
 }
 
@@ -186,11 +206,12 @@ fn read_managed(fields: &[Bytes]) -> Option<Action>
     };
     let lifetime = read_number(lifetime.as_slice())?;
     let interval = read_number(interval.as_slice())?;
-    let skip = read_skip(behind)?;
+    let (skip, lag) = read_reading(behind)?;
     Some(Action::Follow {
         mode: DbReaderMode::ManagedCheckpoint,
         managed: Some((lifetime, interval)),
         skip,
+        lag,
     })
 }
 
@@ -201,11 +222,12 @@ fn read_follow(fields: &[Bytes]) -> Option<Action>
         return None;
     };
     if mode.as_slice() == b"latest".as_slice() {
-        let skip = read_skip(behind)?;
+        let (skip, lag) = read_reading(behind)?;
         Some(Action::Follow {
             mode: DbReaderMode::FollowLatest,
             managed: None,
             skip,
+            lag,
         })
     } else if mode.as_slice() == b"pinned".as_slice() {
         read_pinned(behind)

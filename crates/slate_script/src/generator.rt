@@ -54,6 +54,7 @@ fn add_openings(commands: &mut Vec<Command>) -> Result<(), NoMemory>
             mode: DbReaderMode::FollowLatest,
             managed: None,
             skip: false,
+            lag: None,
         },
     ));
     Ok(())

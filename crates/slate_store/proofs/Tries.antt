@@ -83,7 +83,7 @@ module _ {A : Type 0} (plan : VersionedManifest → Plan A) (o : Objects) where
       put_or_not (Err (ObjectStoreError fault.Unavailable)) o' h =
           elim h [
             | inl same ↦ ((zero, record { answer = tt; cause = tt; part = omega arith; after = same }), λ no. absurd (cc))
-            | inr put ↦ ((1, record { answer = tt; cause = tt; part = omega (arith, one); after = put_one o' put }), λ no. absurd (cc))
+            | inr put ↦ ((1, record { answer = tt; cause = tt; part = omega (arith, one); after = put_one o' put.1 }), λ no. absurd (cc))
           ]
       put_or_not (Err NoMemory) o' h = ((zero, record { answer = tt; cause = tt; part = omega arith; after = h }), λ no. absurd (cc))
       put_or_not (Err e) o' h = absurd h

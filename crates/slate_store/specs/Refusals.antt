@@ -130,7 +130,7 @@ abbrev pub PutsManifest : VersionedManifest → Result Bool StoreRefusal → Obj
 PutsManifest next (Ok true) objects objects' = objects' ≡ changed (PutManifest next.id next.manifest) objects
 PutsManifest next (Ok false) objects objects' = (is_present (PutManifest next.id next.manifest) objects ≡ true) × (objects' ≡ objects)
 PutsManifest next (Err (ObjectStoreError fault.Unavailable)) objects objects' =
-    (objects' ≡ objects) ⊎ (objects' ≡ changed (PutManifest next.id next.manifest) objects)
+    (objects' ≡ objects) ⊎ ((is_present (PutManifest next.id next.manifest) objects ≡ false) × (objects' ≡ changed (PutManifest next.id next.manifest) objects))
 PutsManifest next (Err NoMemory) objects objects' = objects' ≡ objects
 PutsManifest next (Err refusal) objects objects' = ⊥
 

@@ -124,7 +124,7 @@ impl WriterState {
         ensures first { (x : Option Extractor) (o : Objects) → IsExtractor E.may_name E.may_extract (option_copied extractor.entry) x →
             S.objects store.old ≡ Some o → (manifest_refusal x (latest_manifest o) ≡ None → ⊥) → S.calls store.new ≤ S.calls store.old + 1 }
         ensures kind { IfErr result IsOfOpening }
-        ensures faults { S.faults store.old ≤ S.faults store.new }
+        ensures faults { CountsFaults (S.faults store.old) (S.faults store.new) result }
     {
         let (board, mut lead) = new_board(alloc)?;
         let name = name_of(alloc, extractor)?;

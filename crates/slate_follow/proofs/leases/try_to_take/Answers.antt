@@ -116,6 +116,11 @@ returns-in_err-is_put-clause-faults g c =
     let is : c.from_residual-in_err-is_put.result ≡ Err e = search rules in
     rw is (counts-then _ _ _ e c.in_ok-latest.ensures.faults.stays c.in_err-is_put.ensures.faults)
 
+pub returns-then-not-is_put-clause-fits : goal.returns-then-not-is_put-clause-fits
+returns-then-not-is_put-clause-fits g c x lawful =
+    let v = c.in_ok-latest in
+    followed x v.latest (sym (c.in_ok-refusal.ensures.refusal x lawful) ∙ c.in_default.is) (g.S.Store.objects c.args.store.now) v.ensures.found
+
 -- the plan is that after the latest manifest
 planned-is : (lifetime : ℕ) (moment : ℤ) (latest : VersionedManifest) (given : Plan Lease) → to_take lifetime moment latest ≡ given → (a : Option Objects) → IfSome a (λ o. FindsLatest o (Ok latest)) → IfSome a (λ o. PlanIs (to_take lifetime moment) o given)
 planned-is lifetime moment latest given plan None found = tt
@@ -167,3 +172,14 @@ returns-in_err-next-clause-decided g c x lawful is =
     let t = g.S.Store.objects c.args.store.now in
     let fits = followed x v.latest (sym (c.in_ok-refusal.ensures.refusal x lawful) ∙ c.in_default.is) t v.ensures.found in
     if_some t (λ o at. inr (some_at (λ o. RefusesLatest x true o None) t o at fits))
+
+-- ---- what the latest manifest decides takes one call
+pub returns-in_err-latest-clause-first : goal.returns-in_err-latest-clause-first
+returns-in_err-latest-clause-first g c =
+    let is : c.from_residual.result ≡ Err c.in_err-latest.field-0.0 = search rules in
+    rw is (λ first. c.in_err-latest.ensures.calls)
+
+pub returns-in_err-is_put-clause-first : goal.returns-in_err-is_put-clause-first
+returns-in_err-is_put-clause-first g c =
+    let is : c.from_residual-in_err-is_put.result ≡ Err c.in_err-is_put.field-0.0 = search rules in
+    rw is (λ first. absurd (c.in_err-is_put.ensures.undecided first))

@@ -19,7 +19,7 @@ returns-in-Ok-clause-does g c x extracts =
     (λ shut. let same = c.in-Ok.ensures.untouched shut in (same.0, ap (known g.S.Store.objects g.S.Store.faults) same.1))
 
 pub returns-in-Err-clause-calls : goal.returns-in-Err-clause-calls
-returns-in-Err-clause-calls g c = polling-calls _ (is_managed c.args.follower.now.mode) _ _ c.poll.ensures.calls c.poll.ensures.managed_calls
+returns-in-Err-clause-calls g c = polling-calls _ (is_managed c.args.follower.now.mode) c.args.follower.now.lag _ _ c.poll.ensures.calls c.poll.ensures.managed_calls
 
 pub returns-in-Err-clause-does : goal.returns-in-Err-clause-does
 returns-in-Err-clause-does g c x extracts =

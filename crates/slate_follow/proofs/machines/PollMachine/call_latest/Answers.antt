@@ -1,4 +1,4 @@
-use Rattle.std.proofs.Common.{◌≡◌, Err, refl, rules, subst, sym}
+use Rattle.std.proofs.Common.{◌≡◌, Err, refl, rules, subst}
 use Rattle.slate_model.specs.Begun.{Begun, ReadsLatest, decided, noted}
 use Rattle.slate_follow.specs.Stepping.{TurnsTo}
 use Rattle.slate_follow.proofs.Called.{calls-to, decision-counts, latest-failed}

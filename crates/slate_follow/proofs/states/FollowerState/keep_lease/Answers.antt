@@ -1,4 +1,4 @@
-use Rattle.std.proofs.Common.{◌≡◌, ◌<◌, ◌∙◌, None, Some, Ok, Err, IfOk, rules, ap, subst, arith, of_z, to_z}
+use Rattle.std.proofs.Common.{◌≡◌, ◌+◌, ◌*◌, ◌<◌, ◌≤◌, ◌∙◌, None, Some, Ok, Err, IfOk, rules, ap, subst, of_z, to_z}
 use Rattle.std.proofs.Math.Facts.{to_z-of_z}
 use Rattle.std.specs.Int.{w64}
 use Rattle.std.specs.Option.{IfSome}
@@ -8,8 +8,10 @@ use Rattle.slate_errors.specs.declared.errors.SlateError.TheVariants.{Transactio
 use Rattle.slate_model.specs.Follower.{Follower}
 use Rattle.slate_model.specs.Lease.{to_keep}
 use Rattle.slate_model.specs.Managed.{Keeps, PlanCause}
+use Rattle.slate_model.specs.Open.{replayed_logs}
 use Rattle.slate_model.specs.Stores.{Stands, by_objects}
 use Rattle.slate_follow.specs.Keeping.{CallsRound, answered}
+use Rattle.slate_follow.specs.Lagging.{readings}
 use Rattle.slate_follow.proofs.Counted.{all-tries, first-costs, last-try, tries-on}
 use Rattle.slate_follow.proofs.Keeping.{PutsAndKeeps}
 use Rattle.slate_follow.proofs.Rebuilt.{if_some}
@@ -66,7 +68,8 @@ loop-earlier-preserved g c =
       same = again.0 ∙ i.same;
       kept = again.1 ∙ i.kept;
       faults = a.ensures.faults.stays ∙ i.faults;
-      calls = tries-on t (g.S.Store.objects c.loop-earlier.store) i.kept c.loop-earlier.earlier (g.S.Store.calls c.args.store.now) (g.S.Store.calls c.loop-earlier.store) (g.S.Store.calls c.try_to_keep.new.store) i.calls (a.ensures.calls_again (ap Ok none));
+      calls = tries-on t (g.S.Store.objects c.loop-earlier.store) i.kept c.args.self.now.lag c.loop-earlier.earlier (g.S.Store.calls c.args.store.now) (g.S.Store.calls c.loop-earlier.store) (g.S.Store.calls c.try_to_keep.new.store) i.calls
+          (subst (λ (f : Follower). IfSome (g.S.Store.objects c.loop-earlier.store) (λ o. g.S.Store.calls c.try_to_keep.new.store ≤ g.S.Store.calls c.loop-earlier.store + (readings f.lag (replayed_logs o) + 3))) i.same (a.ensures.calls_again (ap Ok none)));
       within = search rules;
       met = λ more. if_some (g.S.Store.objects c.args.store.now) (λ o at. timed-out (Stands (checkpoint_changes plan o) o) plan o (all.some o at).2.1.cause);
     }
@@ -85,18 +88,20 @@ pub returns-in_err-kept-clause-calls : goal.returns-in_err-kept-clause-calls
 returns-in_err-kept-clause-calls g c =
     let i = c.loop-earlier.invariant in
     let fewer : c.loop-earlier.earlier < 8 = search rules in
-    last-try (g.S.Store.objects c.args.store.now) (g.S.Store.objects c.loop-earlier.store) i.kept c.loop-earlier.earlier (g.S.Store.calls c.args.store.now) (g.S.Store.calls c.loop-earlier.store) (g.S.Store.calls c.try_to_keep.new.store) i.calls fewer c.in_err-kept.ensures.calls
+    last-try (g.S.Store.objects c.args.store.now) (g.S.Store.objects c.loop-earlier.store) i.kept c.args.self.now.lag c.loop-earlier.earlier (g.S.Store.calls c.args.store.now) (g.S.Store.calls c.loop-earlier.store) (g.S.Store.calls c.try_to_keep.new.store) i.calls fewer
+    (subst (λ (f : Follower). IfSome (g.S.Store.objects c.loop-earlier.store) (λ o. g.S.Store.calls c.try_to_keep.new.store ≤ g.S.Store.calls c.loop-earlier.store + 2 * (readings f.lag (replayed_logs o) + 2))) i.same c.in_err-kept.ensures.calls)
 
 pub returns-in-Some-clause-calls : goal.returns-in-Some-clause-calls
 returns-in-Some-clause-calls g c =
     let i = c.loop-earlier.invariant in
     let fewer : c.loop-earlier.earlier < 8 = search rules in
-    last-try (g.S.Store.objects c.args.store.now) (g.S.Store.objects c.loop-earlier.store) i.kept c.loop-earlier.earlier (g.S.Store.calls c.args.store.now) (g.S.Store.calls c.loop-earlier.store) (g.S.Store.calls c.try_to_keep.new.store) i.calls fewer c.in_ok-kept.ensures.calls
+    last-try (g.S.Store.objects c.args.store.now) (g.S.Store.objects c.loop-earlier.store) i.kept c.args.self.now.lag c.loop-earlier.earlier (g.S.Store.calls c.args.store.now) (g.S.Store.calls c.loop-earlier.store) (g.S.Store.calls c.try_to_keep.new.store) i.calls fewer
+    (subst (λ (f : Follower). IfSome (g.S.Store.objects c.loop-earlier.store) (λ o. g.S.Store.calls c.try_to_keep.new.store ≤ g.S.Store.calls c.loop-earlier.store + 2 * (readings f.lag (replayed_logs o) + 2))) i.same c.in_ok-kept.ensures.calls)
 
 pub returns-clause-calls : goal.returns-clause-calls
 returns-clause-calls g c =
     let i = c.loop-earlier.invariant in
-    all-tries (g.S.Store.objects c.args.store.now) c.loop-earlier.earlier (g.S.Store.calls c.args.store.now) (g.S.Store.calls c.loop-earlier.store) i.calls i.within
+    all-tries (g.S.Store.objects c.args.store.now) c.args.self.now.lag c.loop-earlier.earlier (g.S.Store.calls c.args.store.now) (g.S.Store.calls c.loop-earlier.store) i.calls i.within
 
 pub returns-in_err-kept-clause-kind : goal.returns-in_err-kept-clause-kind
 returns-in_err-kept-clause-kind g c =

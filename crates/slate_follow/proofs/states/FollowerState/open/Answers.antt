@@ -14,7 +14,8 @@ use Rattle.slate_follow.proofs.Refusing.{opening-fails, opening-lacks, opening-u
 use Rattle.slate_follow.proofs.Answering.{finding-opening, rebuilding-later, rebuilding-opening}
 use Rattle.slate_follow.proofs.Continued.{builds-truncates, leased-truncates}
 use Rattle.slate_follow.proofs.Handed.{handed}
-use Rattle.slate_follow.specs.Answering.{IsOfOpening}
+use Rattle.slate_follow.specs.Answering.{IsOfLatest, IsOfOpening}
+use Rattle.slate_follow.specs.Keeping.{CallsRefused}
 use Rattle.slate_follow.specs.Rebuilding.{Builds}
 use Rattle.slate_store.specs.declared.reader_modes.DbReaderMode.TheVariants.{ManagedCheckpoint}
 use Rattle.slate_follow.proofs.states.FollowerState.open.Goals as goal
@@ -36,10 +37,10 @@ returns-clause-rebuilds g c x lawful = λ unmanaged.
       cause = tt;
       fits = λ o at. some_at (λ o. RefusesLatest x true o None) (g.S.Store.objects c.args.store.now) o at (v.ensures.follows x lawful);
       answer = search rules;
-      can = built-can mode skips true v.view v.last b.rebuilt b.answer v.ensures.kept found built;
-      logs = built-logs mode skips true v.view v.last b.rebuilt b.answer v.ensures.kept found built;
-      sees = λ o line at stored seen. built-sees mode skips true v.view v.last b.rebuilt b.answer v.ensures.kept found built o line at stored;
-      segmented = λ o line at stored seen. built-segmented mode skips true v.view v.last b.rebuilt b.answer v.ensures.kept found built x s.1 o line at stored;
+      can = built-can mode skips true c.args.options.now.max_lag v.view v.last b.rebuilt b.answer v.ensures.kept found built;
+      logs = λ o at free reads _. built-logs mode skips true c.args.options.now.max_lag v.view v.last b.rebuilt b.answer v.ensures.kept found built o at free reads;
+      sees = λ o line at stored seen. built-sees mode skips true c.args.options.now.max_lag v.view v.last b.rebuilt b.answer v.ensures.kept found built o line at stored;
+      segmented = λ o line at stored seen. built-segmented mode skips true c.args.options.now.max_lag v.view v.last b.rebuilt b.answer v.ensures.kept found built x s.1 o line at stored;
       segments = λ opens. s.0;
     })
 
@@ -118,12 +119,12 @@ returns-clause-replays g c = λ unmanaged.
     let mode = c.args.mode in
     let skips = c.args.options.now.skip_wal_replay in
     rw (c.in_ok-new.ensures ∙ ap (λ l. record b.rebuilt { lease = l }) (sym b.ensures.answer.0))
-    (if_some _ (built-view mode skips true v.view v.last b.rebuilt b.answer v.ensures.kept v.ensures.where_modelled b.ensures.built))
+    (if_some _ (built-view mode skips true c.args.options.now.max_lag v.view v.last b.rebuilt b.answer v.ensures.kept v.ensures.where_modelled b.ensures.built))
 
 pub returns-then-eq-clause-managed : goal.returns-then-eq-clause-managed
 returns-then-eq-clause-managed g c x lawful = λ managed.
     let o = c.args.options.now in
-    subst (λ m. (made : ℕ) × OpensManaged (by_objects (g.S.Store.objects c.args.store.now)) x made o.checkpoint_lifetime_ms o.manifest_poll_interval_ms o.skip_wal_replay m (known g.S.Store.objects g.S.Store.faults c.args.store.now) c.open_managed.result (known g.S.Store.objects g.S.Store.faults c.open_managed.new.store))
+    subst (λ m. (made : ℕ) × OpensManaged (by_objects (g.S.Store.objects c.args.store.now)) x made o.checkpoint_lifetime_ms o.manifest_poll_interval_ms o.skip_wal_replay o.max_lag m (known g.S.Store.objects g.S.Store.faults c.args.store.now) c.open_managed.result (known g.S.Store.objects g.S.Store.faults c.open_managed.new.store))
     (to_z-of_z {w = w64} (search rules)) (c.open_managed.ensures.opens x lawful)
 
 -- ---- what it hands over to the next poll
@@ -135,8 +136,8 @@ returns-clause-handed g c x lawful = λ unmanaged free.
     let skips = c.args.options.now.skip_wal_replay in
     let t = g.S.Store.objects c.args.store.now in
     rw (c.in_ok-new.ensures ∙ ap (λ l. record b.rebuilt { lease = l }) (sym b.ensures.answer.0))
-    (λ o line at stored. handed t o line mode skips true b.rebuilt b.answer at stored (built-can mode skips true v.view v.last b.rebuilt b.answer v.ensures.kept v.ensures.where_modelled b.ensures.built o at) free
-    (built-sees mode skips true v.view v.last b.rebuilt b.answer v.ensures.kept v.ensures.where_modelled b.ensures.built o line at stored))
+    (λ o line at stored. handed t o line mode skips true c.args.options.now.max_lag b.rebuilt b.answer at stored (built-can mode skips true c.args.options.now.max_lag v.view v.last b.rebuilt b.answer v.ensures.kept v.ensures.where_modelled b.ensures.built o at) free
+    (built-sees mode skips true c.args.options.now.max_lag v.view v.last b.rebuilt b.answer v.ensures.kept v.ensures.where_modelled b.ensures.built o line at stored))
 
 -- ---- which errors it answers, and which of them after one call
 pub returns-in_err-view-clause-errors : goal.returns-in_err-view-clause-errors
@@ -168,4 +169,17 @@ returns-clause-truncates g c =
     let t' = g.S.Store.objects c.rebuild.new.store in
     rw c.in_ok-new.ensures
     (if_some t' (λ o at. leased-truncates o b.rebuilt None b.answer
-    (builds-truncates o c.args.mode skips v.view v.last b.rebuilt b.answer (some_at (λ o. Builds o c.args.mode skips v.view v.last b.rebuilt b.answer) t1 o (sym b.ensures.kept ∙ at) b.ensures.built))))
+    (builds-truncates o c.args.mode skips c.args.options.now.max_lag v.view v.last b.rebuilt b.answer (some_at (λ o. Builds o c.args.mode skips c.args.options.now.max_lag v.view v.last b.rebuilt b.answer) t1 o (sym b.ensures.kept ∙ at) b.ensures.built))))
+
+-- ---- of one that keeps a checkpoint: options that are refused touch no store, and what the latest manifest decides takes one call
+pub returns-then-eq-clause-refused : goal.returns-then-eq-clause-refused
+returns-then-eq-clause-refused g c = λ managed. c.open_managed.ensures.refused
+
+pub returns-then-eq-clause-first_managed : goal.returns-then-eq-clause-first_managed
+returns-then-eq-clause-first_managed g c x o lawful = λ managed at. c.open_managed.ensures.first x o lawful at
+
+pub returns-then-eq-clause-tries_managed : goal.returns-then-eq-clause-tries_managed
+returns-then-eq-clause-tries_managed g c = λ managed.
+    let n = g.S.Store.calls c.args.store.now in
+    let n' = g.S.Store.calls c.open_managed.new.store in
+    subst (λ m. IfErr c.open_managed.result (λ error. IsOfLatest error → CallsRefused c.args.options.now.checkpoint_lifetime_ms m (g.S.Store.objects c.args.store.now) n n')) (to_z-of_z {w = w64} {z = c.args.moment} (search rules)) c.open_managed.ensures.tries

@@ -11,11 +11,11 @@ use Rattle.slate_model.specs.Managed.{PollsLeased}
 use Rattle.slate_model.specs.Stores.{by_objects, kept_seen}
 use Rattle.slate_model.specs.declared.answers.PollAnswer.{PollAnswer}
 use Rattle.slate_follow.specs.Answering.{IsOfPoll}
-use Rattle.slate_follow.specs.Keeping.{CallsKeeping}
+use Rattle.slate_follow.specs.Keeping.{CallsKeeping, LeftBy}
 use Rattle.slate_follow.specs.Rebuilding.{poll_error}
 use Rattle.slate_errors.specs.declared.errors.SlateError.TheVariants.{InvalidDBState}
 use Rattle.slate_follow.proofs.Answering.{taking-key, taking-poll}
-use Rattle.slate_follow.proofs.Handed.{handed}
+use Rattle.slate_follow.proofs.Handed.{polled-handed}
 use Rattle.slate_follow.proofs.Handing.{polls-handed}
 use Rattle.slate_follow.proofs.Leased.{managed-is, mode-leased}
 use Rattle.slate_follow.proofs.Refusing.{err-same}
@@ -90,7 +90,7 @@ pub returns-in-Ok-clause-handed : goal.returns-in-Ok-clause-handed
 returns-in-Ok-clause-handed g c x lawful = λ unmanaged free o line at stored seen.
     let r = c.in-Ok.ensures.rebuilds x lawful in
     let old = c.args.self.now in
-    handed (g.S.Store.objects c.args.store.now) o line old.mode old.skips false c.take_new.new.self c.in-Ok.answer at stored (r.can o at) free (r.sees o line at stored seen)
+    polled-handed (g.S.Store.objects c.args.store.now) o line old c.take_new.new.self c.in-Ok.answer at stored (r.can o at) free seen (r.sees o line at stored seen)
 
 pub returns-in-Err-clause-handed : goal.returns-in-Err-clause-handed
 returns-in-Err-clause-handed g c x lawful = λ unmanaged free o line at stored seen. subst (λ f. kept_seen f o line) (sym c.in-Err.ensures.failed) seen
@@ -139,3 +139,10 @@ returns-in-Some-lease-clause-handed_managed g c x lawful = λ managed o o' line 
     let after = known g.S.Store.objects g.S.Store.faults p.new.store in
     let kept = subst (λ m. (made : ℕ) × PollsLeased (by_objects t) x made l m old before p.result p.new.self after) (to_z-of_z {w = w64} {z = c.args.moment} (search rules)) (p.ensures.keeps x lawful) in
     polls-handed x kept.0 t (g.S.Store.objects p.new.store) (g.S.Store.faults c.args.store.now) (g.S.Store.faults p.new.store) l c.args.moment old p.result p.new.self kept.1 (managed-is old.mode managed) o o' line at at' stored seen
+
+pub returns-in-Some-lease-clause-left_managed : goal.returns-in-Some-lease-clause-left_managed
+returns-in-Some-lease-clause-left_managed g c = λ managed open_.
+    let p = c.poll_leased in
+    let t = g.S.Store.objects c.args.store.now in
+    let t' = g.S.Store.objects p.new.store in
+    subst (λ m. IfErr p.result (λ error. LeftBy m c.args.self.now t error p.new.self t')) (to_z-of_z {w = w64} {z = c.args.moment} (search rules)) p.ensures.left

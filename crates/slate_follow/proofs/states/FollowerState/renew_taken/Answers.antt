@@ -1,4 +1,4 @@
-use Rattle.std.proofs.Common.{◌≡◌, Some, Ok, Err, refl, rules, subst, of_z, to_z}
+use Rattle.std.proofs.Common.{◌≡◌, Some, Ok, Err, refl, rules, subst}
 use Rattle.std.proofs.Math.Facts.{to_z-of_z}
 use Rattle.std.specs.Int.{w64}
 use Rattle.slate_store.specs.Checkpoints.{to_refresh}

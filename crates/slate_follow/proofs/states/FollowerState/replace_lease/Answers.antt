@@ -56,7 +56,7 @@ returns-in-Ok-clause-puts g c =
     let is_put : c.in_ok-is_put.is_put ≡ true = search rules in
     let puts = subst (λ b. WhereModelled (PutsManifest n.next (Ok b)) (g.S.Store.objects c.args.store.now) (g.S.Store.objects c.put_next.new.store)) is_put c.in_ok-is_put.ensures.puts in
     let all = put-by MayLack plan c.args.self.now.lease n.next n.taken gives c.in-Ok.ensures.kept puts c.in-Ok.answer in
-    let same : c.follow.new.self.lease ≡ Some n.taken = c.in-Ok.ensures.asked.2 in
+    let same : c.follow.new.self.lease ≡ Some n.taken = c.in-Ok.ensures.asked.3 in
     rw same all
 
 pub returns-in-Ok-clause-taken : goal.returns-in-Ok-clause-taken
@@ -69,7 +69,7 @@ returns-in-Ok-clause-taken g c =
     let new = c.follow.new.self in
     let answer = c.in-Ok.answer in
     let took = subst (λ (f : Follower). IfSome t1 (λ o. TakesUnder o n.next (record f { lease = Some n.taken }) (unleased new) answer)) c.self.view_is c.in-Ok.ensures.taken in
-    put-takes plan n.next n.taken gives c.args.self.now new answer (Some n.taken) c.in-Ok.ensures.asked.4 c.in-Ok.ensures.kept took
+    put-takes plan n.next n.taken gives c.args.self.now new answer (Some n.taken) c.in-Ok.ensures.asked.5 c.in-Ok.ensures.kept took
 
 pub returns-in-Ok-clause-free : goal.returns-in-Ok-clause-free
 returns-in-Ok-clause-free g c =
@@ -173,4 +173,4 @@ returns-in-Ok-clause-there g c =
     let new = c.follow.new.self in
     let gives : leased l.lifetime (to_write (Some l.id) (Some l.lifetime) c.args.moment c.args.latest.now) ≡ Ok (Some n.next, n.taken) = search rules in
     let there = written-found (Some l.id) l.lifetime c.args.moment c.args.latest.now n.next n.taken gives in
-    at-lease new.lease n.taken (λ (x : Lease). IsSome (found x.id new.view)) c.in-Ok.ensures.asked.2 (subst (λ (v : VersionedManifest). IsSome (found n.taken.id v)) (sym c.in-Ok.ensures.asked.4) there)
+    at-lease new.lease n.taken (λ (x : Lease). IsSome (found x.id new.view)) c.in-Ok.ensures.asked.3 (subst (λ (v : VersionedManifest). IsSome (found n.taken.id v)) (sym c.in-Ok.ensures.asked.5) there)

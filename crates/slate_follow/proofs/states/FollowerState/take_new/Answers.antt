@@ -1,4 +1,4 @@
-use Rattle.std.proofs.Common.{rules, ◌≡◌, ℕ, List, ◌∙◌, Err, ap, refl, subst, sym}
+use Rattle.std.proofs.Common.{rules, inl, inr, ◌≡◌, ℕ, List, ◌∙◌, Err, ap, refl, subst, sym}
 use Rattle.std.proofs.lemmas.Result.{err_from_is_err_and}
 use Rattle.std.specs.Option.{IfSome}
 use Rattle.slate_errors.specs.declared.errors.SlateError.TheVariants.{EmptySegmentPrefix}
@@ -19,16 +19,16 @@ returns-clause-rebuilds g c x lawful =
     let old = c.args.self.now in
     let new = c.follow.new.self in
     let free = c.requires.free in
-    let bare : unleased new ≡ new = ap (λ l. record new { lease = l }) (sym (a.ensures.asked.2 ∙ c.requires.unleased)) in
+    let bare : unleased new ≡ new = ap (λ l. record new { lease = l }) (sym (a.ensures.asked.3 ∙ c.requires.unleased)) in
     let took = subst (λ (f : Follower). IfSome (g.S.Store.objects c.latest_of.new.store) (λ o. TakesUnder o v.latest old f a.answer)) bare a.ensures.taken in
     record {
       kept = search rules;
       faults = search rules;
       missing = λ is. absurd (cc);
       cause = tt;
-      answer = (a.ensures.asked.0, a.ensures.asked.1, a.ensures.asked.2 ∙ c.requires.unleased, a.ensures.asked.3, a.ensures.asked.5);
-      can = taken-can v.ensures.kept v.latest v.ensures.found old new a.answer free took a.ensures.asked.4;
-      logs = taken-logs v.ensures.kept v.latest v.ensures.found old new a.answer free took;
+      answer = (a.ensures.asked.0, a.ensures.asked.1, a.ensures.asked.2, a.ensures.asked.3 ∙ c.requires.unleased, a.ensures.asked.4, a.ensures.asked.6);
+      can = taken-can v.ensures.kept v.latest v.ensures.found old new a.answer free took a.ensures.asked.5;
+      logs = λ o at unpinned reads may. taken-logs v.ensures.kept v.latest v.ensures.found old new a.answer free took o at unpinned reads (elim may [ inl opens ↦ absurd (cc) | inr none ↦ none ]);
       sees = taken-sees v.ensures.kept v.latest v.ensures.found old new a.answer free took;
       fits = λ o at. (v.latest, some_at _ (g.S.Store.objects c.args.store.now) o at v.ensures.found, refl);
       segmented = λ o line at stored seen. tt;
@@ -41,7 +41,7 @@ returns-clause-replays g c =
     let a = c.in_ok-answer in
     let old = c.args.self.now in
     let new = c.follow.new.self in
-    let bare : unleased new ≡ new = ap (λ l. record new { lease = l }) (sym (a.ensures.asked.2 ∙ c.requires.unleased)) in
+    let bare : unleased new ≡ new = ap (λ l. record new { lease = l }) (sym (a.ensures.asked.3 ∙ c.requires.unleased)) in
     let took = subst (λ (f : Follower). IfSome (g.S.Store.objects c.latest_of.new.store) (λ o. TakesUnder o v.latest old f a.answer)) bare a.ensures.taken in
     if_some _ (taken-view v.ensures.kept v.latest v.ensures.found old new a.answer c.requires.free took)
 
@@ -138,6 +138,6 @@ returns-clause-truncates g c =
     let a = c.in_ok-answer in
     let old = c.args.self.now in
     let new = c.follow.new.self in
-    let bare : unleased new ≡ new = ap (λ l. record new { lease = l }) (sym (a.ensures.asked.2 ∙ c.requires.unleased)) in
+    let bare : unleased new ≡ new = ap (λ l. record new { lease = l }) (sym (a.ensures.asked.3 ∙ c.requires.unleased)) in
     let took = subst (λ (f : Follower). IfSome (g.S.Store.objects c.latest_of.new.store) (λ o. TakesUnder o v.latest old f a.answer)) bare a.ensures.taken in
     if_some _ (λ o at. took-truncates o v.latest old new a.answer (some_at (λ o. TakesUnder o v.latest old new a.answer) (g.S.Store.objects c.latest_of.new.store) o (v.ensures.kept ∙ at) took))

@@ -1,4 +1,4 @@
-use Rattle.std.proofs.Common.{◌≡◌, ◌≤◌, ◌∙◌, false, true, is_none, None, Option, Some, Ok, Err, IfErr, IfOk, IfSome, refl, rules, sym, ap, subst, arith, of_z, to_z}
+use Rattle.std.proofs.Common.{◌≡◌, ◌∙◌, false, true, is_none, None, Option, Some, Ok, Err, IfErr, IfOk, IfSome, refl, rules, sym, ap, subst, arith, of_z, to_z}
 use Rattle.std.proofs.Math.Facts.{to_z-of_z}
 use Rattle.std.proofs.lemmas.Result.{err_from_is_err_and}
 use Rattle.std.specs.Int.{w64}
@@ -15,7 +15,7 @@ use Rattle.slate_model.specs.Stores.{Stands}
 use Rattle.slate_store.specs.Refusals.{planned}
 use Rattle.slate_follow.specs.declared.keeps.Kept.{Kept}
 use Rattle.slate_follow.specs.Growing.{added_to}
-use Rattle.slate_follow.specs.Keeping.{IsNews, MayLack, PutsBy, ReplaceLacks, TakesLatest, informed, put_tried, answered}
+use Rattle.slate_follow.specs.Keeping.{FindsLatest, IsNews, MayLack, PutsBy, ReplaceLacks, TakesLatest, informed, put_tried, answered}
 use Rattle.slate_follow.proofs.Answering.{polling-poll, turn-polling}
 use Rattle.slate_follow.proofs.Counted.{mid-fewer-at, missing-costs, news-once, news-then, news-twice, renew-costs, replaced-costs, replaced-first, rest-costs}
 use Rattle.slate_follow.specs.Rebuilding.{Truncates}
@@ -68,7 +68,7 @@ returns-then-differs-clause-keeps g c =
     let replaced : replaces old.view l m v.latest ≡ true = replaces-by old.view v.latest l m true _ _ other refl refl in
     let held : c.self.inside.lease ≡ Some l = ap (λ (f : Follower). f.lease) c.self.view_is ∙ c.requires.leased in
     let managed : old.mode ≡ ManagedCheckpoint = sym (ap (λ (f : Follower). f.mode) c.self.view_is) ∙ mode-leased c.self.inside.following.mode c.self.inside.lease l c.self.invariant.leased held in
-    let comes = if_some (g.S.Store.objects c.args.store.now) (λ o at. comes-itself o old managed) in
+    let comes = if_some (g.S.Store.objects c.args.store.now) (λ o at. comes-itself o v.latest (some_at (λ o. FindsLatest o (Ok v.latest)) (g.S.Store.objects c.args.store.now) o at v.ensures.found) old managed) in
     replaced-kept (g.S.Store.objects c.args.store.now) v.latest v.ensures.found l m old r.new.self old comes replaced v.ensures.kept (answered r.result) puts took
 
 pub returns-then-not-is_due-clause-puts : goal.returns-then-not-is_due-clause-puts
@@ -302,7 +302,7 @@ returns-then-differs-clause-lacks g c x lawful is =
     let lacks = subst (λ m. IfSome (g.S.Store.objects c.latest_of.new.store) (λ o. ReplaceLacks x (replacement old.view v.latest l m) old o)) (to_z-of_z {w = w64} {z = c.args.moment} (search rules)) (r.ensures.lacks x lawful is) in
     let held : c.self.inside.lease ≡ Some l = ap (λ (f : Follower). f.lease) c.self.view_is ∙ c.requires.leased in
     let managed : old.mode ≡ ManagedCheckpoint = sym (ap (λ (f : Follower). f.mode) c.self.view_is) ∙ mode-leased c.self.inside.following.mode c.self.inside.lease l c.self.invariant.leased held in
-    let comes = if_some (g.S.Store.objects c.args.store.now) (λ o at. comes-itself o old managed) in
+    let comes = if_some (g.S.Store.objects c.args.store.now) (λ o at. comes-itself o v.latest (some_at (λ o. FindsLatest o (Ok v.latest)) (g.S.Store.objects c.args.store.now) o at v.ensures.found) old managed) in
     replace-keeps x v.latest v.ensures.kept v.ensures.found l c.args.moment old old comes replaced lacks
 
 pub returns-in_err-news-clause-lacks : goal.returns-in_err-news-clause-lacks
@@ -607,7 +607,8 @@ returns-then-is_none-clause-answers g c =
     let t2 = g.S.Store.objects c.news.new.store in
     let kept : t2 ≡ t = e.kept ∙ v.ensures.kept in
     let same : differs old.view v.latest ≡ false = search rules in
-    subst (λ s. IfOk (answered r.result) (λ answer. IsOpenAt s r.new.self answer)) (ap (λ (f : Follower). f.skips) e.pushed.same) r.ensures.answers
+    subst (λ n. IfOk (answered r.result) (λ answer. IsOpenAt old.skips n r.new.self answer)) (ap (λ (f : Follower). f.lag) e.pushed.same)
+    (subst (λ s. IfOk (answered r.result) (λ answer. IsOpenAt s mid.lag r.new.self answer)) (ap (λ (f : Follower). f.skips) e.pushed.same) r.ensures.answers)
 
 pub returns-then-is_none-clause-keeps : goal.returns-then-is_none-clause-keeps
 returns-then-is_none-clause-keeps g c =

@@ -22,3 +22,8 @@ returns-clause-handed g c = rw (← c.self.view_is) c.poll.ensures.handed
 
 pub returns-clause-handed_managed : goal.returns-clause-handed_managed
 returns-clause-handed_managed g c = rw (← c.self.view_is) c.poll.ensures.handed_managed
+
+pub returns-clause-left_managed : goal.returns-clause-left_managed
+returns-clause-left_managed g c =
+    let moment_back : to_z w64 (of_z w64 c.args.moment) ≡ c.args.moment = to_z-of_z {w = w64} {z = c.args.moment} c.ranges.moment in
+    rw (← c.self.view_is, ← moment_back) c.poll.ensures.left_managed

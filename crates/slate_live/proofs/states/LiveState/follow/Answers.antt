@@ -14,14 +14,14 @@ use Rattle.slate_live.proofs.states.LiveState.follow.Goals as goal
 pub returns-then-is_err-clause-does : goal.returns-then-is_err-clause-does
 returns-then-is_err-clause-does g c settings managed extracts lifetime interval =
     rw (← c.self.view_is) (
-    follower-in_vain (by_objects (g.S.Store.objects c.args.store.now)) settings c.args.mode managed c.args.options.now.skip_wal_replay c.args.moment (c.in-Ok.follower, c.in-Ok.answer) _ _ _ _ _
+    follower-in_vain (by_objects (g.S.Store.objects c.args.store.now)) settings c.args.mode managed c.args.options.now.skip_wal_replay c.args.options.now.max_lag c.args.moment (c.in-Ok.follower, c.in-Ok.answer) _ _ _ _ _
     (ap (map object_of) c.reserve.ensures.items) c.args.options.now.checkpoint_lifetime_ms c.args.options.now.manifest_poll_interval_ms lifetime interval _ (search rules) (c.in-Ok.ensures.rebuilds settings.extractor extracts) (c.in-Ok.ensures.managed settings.extractor extracts)
     )
 
 pub returns-else-is_err-clause-does : goal.returns-else-is_err-clause-does
 returns-else-is_err-clause-does g c settings managed extracts lifetime interval =
     rw (← c.self.view_is) (
-    opens-follower (by_objects (g.S.Store.objects c.args.store.now)) settings c.args.mode managed c.args.options.now.skip_wal_replay c.args.moment (c.in-Ok.follower, c.in-Ok.answer) _ _ _ _ _ _
+    opens-follower (by_objects (g.S.Store.objects c.args.store.now)) settings c.args.mode managed c.args.options.now.skip_wal_replay c.args.options.now.max_lag c.args.moment (c.in-Ok.follower, c.in-Ok.answer) _ _ _ _ _ _
     (c.followed_reply.ensures ∙ ap (λ n. followed_reply n c.in-Ok.answer) (c.len-object.ensures ∙ (c.self.inside.objects.ok.0 ∙ sym (length-map c.self.inside.objects.items object_of))))
     (ap (map object_of) (c.push_reserved.ensures.items ∙ ap (λ xs. xs ++ objects.Follower c.new.result ∷ []) c.reserve.ensures.items)
     ∙ (map-append object_of c.self.inside.objects.items (objects.Follower c.new.result ∷ [])
@@ -34,7 +34,7 @@ returns-in-Err-clause-calls g c = follow-calls _ c.args.mode c.args.options.now.
 
 pub returns-in-Err-clause-does : goal.returns-in-Err-clause-does
 returns-in-Err-clause-does g c settings managed extracts lifetime interval =
-    refuses-follower (by_objects (g.S.Store.objects c.args.store.now)) settings c.args.mode managed c.args.options.now.skip_wal_replay c.args.moment c.in-Err.error _ _ _ _ _ c.refusal.ensures
+    refuses-follower (by_objects (g.S.Store.objects c.args.store.now)) settings c.args.mode managed c.args.options.now.skip_wal_replay c.args.options.now.max_lag c.args.moment c.in-Err.error _ _ _ _ _ c.refusal.ensures
     c.args.options.now.checkpoint_lifetime_ms c.args.options.now.manifest_poll_interval_ms lifetime interval _ (search rules) (c.in-Err.ensures.rebuilds settings.extractor extracts) (c.in-Err.ensures.managed settings.extractor extracts)
 
 pub returns-else-is_err-clause-polls : goal.returns-else-is_err-clause-polls

@@ -14,11 +14,13 @@ use Rattle.slate_live.proofs.Closed.{asks-extractor}
 use Rattle.slate_live.proofs.Linking.{does-at, names-object}
 use Rattle.slate_live.proofs.states.LiveState.make_call.Goals as goal
 
--- an opening of a reader with the moment and the skipping that a command has
-opens_as : {L : Type 0} (k : Knowledge L) (s : Settings) (mode : DbReaderMode) (managed : Option (ℕ × ℕ)) (made : ℕ) (before : State L) (reply : Reply) (after : State L) (moment moment' : ℤ) (skips skips' : Bool) → moment ≡ moment' → skips ≡ skips' →
-    OpensFollowerIn k s mode managed skips moment made before reply after → OpensFollowerIn k s mode managed skips' moment' made before reply after
-opens_as k s mode managed made before reply after moment moment' skips skips' at same opens =
-    subst (λ m. OpensFollowerIn k s mode managed skips' m made before reply after) at (subst (λ x. OpensFollowerIn k s mode managed x moment made before reply after) same opens)
+-- an opening of a reader with the moment, the skipping and the lag that a command has
+opens_as : {L : Type 0} (k : Knowledge L) (s : Settings) (mode : DbReaderMode) (managed : Option (ℕ × ℕ)) (made : ℕ) (before : State L) (reply : Reply) (after : State L) (moment moment' : ℤ) (skips skips' : Bool) (lag lag' : ℕ) → moment ≡ moment' → skips ≡ skips' → lag ≡ lag' →
+    OpensFollowerIn k s mode managed skips lag moment made before reply after → OpensFollowerIn k s mode managed skips' lag' moment' made before reply after
+opens_as k s mode managed made before reply after moment moment' skips skips' lag lag' at same as_far opens =
+    subst (λ m. OpensFollowerIn k s mode managed skips' lag' m made before reply after) at
+    (subst (λ x. OpensFollowerIn k s mode managed x lag' moment made before reply after) same
+    (subst (λ n. OpensFollowerIn k s mode managed skips n moment made before reply after) as_far opens))
 
 pub returns-in-Open-clause-does : goal.returns-in-Open-clause-does
 returns-in-Open-clause-does g c settings lawful extracts options_are =
@@ -35,8 +37,8 @@ returns-in-Follow-clause-does g c settings lawful extracts options_are =
     let k = by_objects (g.S.Store.objects c.args.store.now) in
     let before = running c.args.self.now (known g.S.Store.objects g.S.Store.faults c.args.store.now) in
     let after = running c.follow.new.self (known g.S.Store.objects g.S.Store.faults c.follow.new.store) in
-    let did = opens_as k settings c.in-Follow.mode c.in-Follow.managed d.0 before c.follow.result after _ _ _ _ (search rules) o.skips d.1 in
-    (d.0, does-at k settings c.args.command.now d.0 before c.follow.result after (NewFollower c.in-Follow.mode c.in-Follow.managed c.in-Follow.skip) (ap target_of c.in-Follow.is) did)
+    let did = opens_as k settings c.in-Follow.mode c.in-Follow.managed d.0 before c.follow.result after _ _ _ _ _ _ (search rules) o.skips o.lag d.1 in
+    (d.0, does-at k settings c.args.command.now d.0 before c.follow.result after (NewFollower c.in-Follow.mode c.in-Follow.managed c.in-Follow.skip c.in-Follow.lag) (ap target_of c.in-Follow.is) did)
 
 pub returns-in-Checkpoint-clause-does : goal.returns-in-Checkpoint-clause-does
 returns-in-Checkpoint-clause-does g c settings lawful extracts options_are =

@@ -179,3 +179,39 @@ returns-clause-line g c = rw c.of.ensures c.in_ok-memory.ensures.numbered
 pub returns-clause-fresh : goal.returns-clause-fresh
 returns-clause-fresh g c =
     rw (c.new.ensures, c.of.ensures) (record { keeps = search rules; limit_is = search rules; tasked = ap (λ t. t.names) c.in_ok-tasks.ensures; unclosed = search rules; epoch = search rules; counter = search rules; durable = ap (λ n. c.in_ok-view.view.manifest.last_l0_seq + n) (ap length c.batches-3.ensures.value); tabled = omega arith })
+
+-- ---- the count of faults
+pub returns-in_err-board-clause-faults : goal.returns-in_err-board-clause-faults
+returns-in_err-board-clause-faults g c =
+    let p = err_from_is_err_and c.from_residual.result c.from_residual.ensures.1 in
+    rw (p.1, p.2) (search rules)
+
+pub returns-in_err-name-clause-faults : goal.returns-in_err-name-clause-faults
+returns-in_err-name-clause-faults g c =
+    let p = err_from_is_err_and c.from_residual-in_err-name.result c.from_residual-in_err-name.ensures.1 in
+    rw (p.1, p.2) (search rules)
+
+pub returns-in_err-tasks-clause-faults : goal.returns-in_err-tasks-clause-faults
+returns-in_err-tasks-clause-faults g c =
+    let p = err_from_is_err_and c.from_residual-in_err-tasks.result c.from_residual-in_err-tasks.ensures.1 in
+    rw (p.1, p.2) (search rules)
+
+pub returns-in_err-view-clause-faults : goal.returns-in_err-view-clause-faults
+returns-in_err-view-clause-faults g c =
+    let p = err_from_is_err_and c.from_residual-in_err-view.result c.from_residual-in_err-view.ensures.1 in
+    rw (p.1, p.2) (search rules)
+
+pub returns-in_err-put_opening-clause-faults : goal.returns-in_err-put_opening-clause-faults
+returns-in_err-put_opening-clause-faults g c =
+    let p = err_from_is_err_and c.from_residual-in_err-put_opening.result c.from_residual-in_err-put_opening.ensures.1 in
+    rw (p.1, p.2) (search rules)
+
+pub returns-in_err-memory-clause-faults : goal.returns-in_err-memory-clause-faults
+returns-in_err-memory-clause-faults g c =
+    let p = err_from_is_err_and c.from_residual-in_err-memory.result c.from_residual-in_err-memory.ensures.1 in
+    rw (p.1, p.2) (search rules)
+
+pub returns-in_err-segments-clause-faults : goal.returns-in_err-segments-clause-faults
+returns-in_err-segments-clause-faults g c =
+    let p = err_from_is_err_and c.from_residual-in_err-segments.result c.from_residual-in_err-segments.ensures.1 in
+    rw (p.1, p.2) (segment-faults _ _ _ (search rules) c.in_err-segments.ensures.kind)

@@ -1,5 +1,5 @@
 -- What the steps of a reader that keeps a checkpoint of its own put and answer.
-use Rattle.std.specs.Prelude.{◌≡◌, ℕ, ℤ, ◌+◌, ◌*◌, ◌<◌, ◌≤◌, ◌⊎◌, is_none, if◌then◌else◌, Bool, true, false, max, List, [], ◌++◌, length, Option, Some, None, Result, Ok, Err, IfErr, IfSome, IsSome}
+use Rattle.std.specs.Prelude.{◌≡◌, ℕ, ℤ, ◌+◌, ◌*◌, ◌<◌, ◌≤◌, ◌⊎◌, ◌||◌, if◌then◌else◌, Bool, true, false, max, List, [], ◌++◌, length, Option, Some, None, Result, Ok, Err, IfErr, IfSome, IsSome}
 use Rattle.slate_types.specs.declared.batches.Batch.{Batch}
 use Rattle.slate_types.specs.Line.{batches_above, end}
 use Rattle.slate_types.specs.declared.store_errors.StoreFault.TheVariants.{Unavailable}
@@ -236,12 +236,9 @@ LeftBy moment old before error new after = FailsRound moment old before error ne
 
 -- ---- calls
 -- How often a round of a poll of a reader that keeps a checkpoint calls a store, where log files are to be read so often: it reads the latest
--- manifest and asks for the last log file, and puts a manifest where its view differs or its lease is due; where its checkpoint isn't
--- there then, it asks for the last log file again, and may read those again that are left after a missing one.
+-- manifest and asks for the last log file, and puts a manifest where its view differs or its lease is due.
 abbrev pub calls_to_keep : (view : VersionedManifest) → Lease → (moment : ℤ) → (latest : VersionedManifest) → (logs : ℕ) → ℕ
-calls_to_keep view lease moment latest logs =
-    if differs view latest then logs + 3
-    else (if is_due moment lease then (if is_none (found lease.id latest) then 2 * logs + 4 else logs + 3) else logs + 2)
+calls_to_keep view lease moment latest logs = if differs view latest || is_due moment lease then logs + 3 else logs + 2
 
 -- at most so often, where it answers Ok
 abbrev pub CallsRound : Objects → Follower → Lease → (moment : ℤ) → (calls calls' : ℕ) → Type 0

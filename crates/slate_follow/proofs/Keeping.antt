@@ -101,6 +101,34 @@ module _ (refused : Objects → SlateError → Type 0) (t : Option Objects) (o o
         sees = subst (λ x. SeesLatest (by_objects t) old.skips old.lag (SeesPolled (by_objects t) old) (kept_seen old o) new.view x new answer) (sym after) (taken-latest o latest new.view is kept old from comes new answer takes t at);
       }
 
+  -- so it was, and the reader has what was new before that
+  logs-so : (f : Follower) (view : VersionedManifest) (given : Option Lease) (a : PollAnswer) → HasAllLogs o' f a → HasAllLogs o' (record f { view = view; lease = given }) a
+  logs-so f view given (Whole at) all = all
+  logs-so f view given (Truncated at) all = tt
+
+  pub missing-keeps : old.mode ≡ ManagedCheckpoint → differs old.view latest ≡ false → old.line.floor ≡ old.view.manifest.last_l0_seq → (bare : Follower) (added : List Batch) (found : Replayed) (mark : ℕ) → IsNews o old latest old.skips added found mark → answer ≡ answer_of found (number bare) →
+      unsegmented bare ≡ record (informed old old.skips added mark) { lease = bare.lease } → replaces old.view lease moment latest ≡ true → (next : VersionedManifest) (given : Lease) → replacement old.view latest lease moment ≡ Ok (Some next, given) → new ≡ record bare { view = next; lease = Some given } →
+      PutsBy refused (replacement old.view latest lease moment) old.lease o (Ok answer) new.lease o' → Keeps (by_objects t) lease moment old o new answer o'
+  missing-keeps managed same floor bare added found mark news answers becomes replaced next given gives new_is puts =
+      let p = replacement old.view latest lease moment in
+      let after = put-all refused p old.lease new.lease o o' answer next given gives puts in
+      let kept = written o latest is lease.lifetime moment next given (Some lease.id) gives in
+      let tables = ap (λ (v : VersionedManifest). v.manifest.last_l0_seq) kept.form.1 in
+      let replayed = ap (λ (v : VersionedManifest). v.manifest.replay_after_wal_id) kept.form.1 in
+      let sees = subst (λ x. SeesLatest (by_objects t) old.skips old.lag (SeesPolled (by_objects t) old) (kept_seen old o) next x bare answer) (sym after)
+      (informed-sees o (changed (PutManifest next.id next.manifest) o) latest next is refl tables replayed old managed same floor added found mark bare.lease bare answer answers t at news becomes) in
+      record {
+        latest = latest;
+        is_latest = is;
+        next = Some next;
+        given = given;
+        plan = to-replace old.view latest lease moment replaced ∙ gives;
+        leased = given-lease refused p old.lease new.lease o o' answer (Some next) given gives puts;
+        view = subst (λ r. MatchBool r (Some next ≡ Some new.view) (new.view ≡ old.view)) (sym replaced) (ap Some (sym (ap (λ (f : Follower). f.view) new_is)));
+        sees = subst (λ f. SeesLatest (by_objects t) old.skips old.lag (SeesPolled (by_objects t) old) (kept_seen old o) next o' f answer) (sym new_is)
+            (record { logs = λ reads none. logs-so bare next (Some given) answer (sees.logs reads none); sees = sees.sees });
+      }
+
   -- it goes on by its view
   module _ (managed : old.mode ≡ ManagedCheckpoint) (same : differs old.view latest ≡ false) (floor : old.line.floor ≡ old.view.manifest.last_l0_seq) (added : List Batch) (found : Replayed) (mark : ℕ) (answers : answer ≡ answer_of found (number new))
       (news : IsNews o old latest old.skips added found mark) (becomes : unsegmented new ≡ record (informed old old.skips added mark) { lease = new.lease }) (unreplaced : replaces old.view lease moment latest ≡ false) where

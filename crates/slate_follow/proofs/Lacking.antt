@@ -30,16 +30,18 @@ use Rattle.slate_model.specs.Segments.{Extractor, ops_of, unsegmented_refusal}
 use Rattle.slate_model.specs.Stores.{by_objects, kept_seen}
 use Rattle.slate_model.specs.declared.answers.PollAnswer.TheVariants.{Whole}
 use Rattle.slate_model.specs.declared.leases.Lease.{Lease}
-use Rattle.slate_follow.specs.Keeping.{ComesFrom, FindsLatest, KeepLacks, NewsLacks, NextLacks, OnLacks, PutsBy, PutsManifest, ReplaceLacks}
-use Rattle.slate_follow.specs.Growing.{ExtendingLacks}
+use Rattle.slate_follow.specs.Keeping.{ComesFrom, FindsLatest, KeepLacks, NextLacks, OnLacks, PutsBy, PutsManifest, ReplaceLacks}
 use Rattle.slate_follow.specs.Lagging.{IsLastTaken}
-use Rattle.slate_follow.specs.Rebuilding.{Lacks, Reaches, TakingLacks}
+use Rattle.slate_follow.specs.Rebuilding.{GoingLacks, Reaches, TakingLacks}
 use Rattle.slate_follow.proofs.Continued.{goes-refuses, taking-some}
-use Rattle.slate_follow.proofs.Informed.{tabled-same, taken-lacking}
+use Rattle.slate_follow.proofs.Informed.{taken-lacking}
 use Rattle.slate_follow.proofs.Keeping.{renewal, replacement, to-renewal, to-replace}
 use Rattle.slate_follow.proofs.Leased.{HasCheckpoints, PutsKept, put-is, written}
 use Rattle.slate_follow.proofs.Rebuilt.{at_stored, builds-refuses, if_some, some_at}
+use Rattle.slate_follow.proofs.Later.{none-replayed}
 use Rattle.slate_follow.proofs.Refusing.{lacks-some}
+use Rattle.slate_follow.proofs.Segmented.{none-lacks}
+use Rattle.slate_follow.proofs.Having.{goes-same, skipped-last}
 
 -- ---- what a manifest refuses that was put after another, that one does
 module _ (t : Option Objects) (x : Option Extractor) (opening : Bool) (o o' : Objects) (latest next : VersionedManifest) (is : latest_manifest o ≡ Some latest) (next_is : latest_manifest o' ≡ Some next)
@@ -124,17 +126,18 @@ put-lacks x plan old next given gives t t1 puts lacks =
     let l = some_at (λ o. TakingLacks x o next old) t1 h.0 h.1 lacks in
     inr (next, given, gives, subst (λ s. TakingLacks x s next old) h.2 l))
 
--- what it takes lacks one, by the steps of that
-pub taken-lacks : (t t1 : Option Objects) (x : Option Extractor) (latest : VersionedManifest) (last from tabled : ℕ) (old : Follower) → t1 ≡ t → IfSome t1 (λ o. (key : List ℕ) × ExtendingLacks x from last tabled old o key) →
-    from ≡ max old.mark latest.manifest.replay_after_wal_id → tabled ≡ old.view.manifest.last_l0_seq → IfSome t (λ o. IsLastTaken old.lag (number old) from o last) → old.skips ≡ false → IfSome t (λ o. NewsLacks x old latest o)
-taken-lacks t t1 x latest last from tabled old kept lacks from_is tabled_is reach reads =
-    if_some t
-    (λ o is.
-    let l = some_at (λ o. (key : List ℕ) × ExtendingLacks x from last tabled old o key) t1 o (kept ∙ is) lacks in
-    let taken = subst (λ k. IsLastTaken old.lag (number old) k o last) from_is (some_at (λ o. IsLastTaken old.lag (number old) from o last) t o is reach) in
-    let bs = l.1.0 in
-    let logs = subst (λ k. Replays k last (number old) [] bs o (Ok l.1.1)) from_is l.1.2 in
-    (l.0, bs, l.1.1, reads, last, taken, logs, subst (λ n. Lacks x (batches_above n (old.line.batches ++ bs)) l.0) tabled_is l.1.3))
+-- of a latest manifest that doesn't differ from the view: one that skips log files takes none, and the others go on
+on-taking : (x : Option Extractor) (o : Objects) (latest : VersionedManifest) (old : Follower) → old.line.floor ≡ old.view.manifest.last_l0_seq → differs old.view latest ≡ false → TakingLacks x o latest old →
+    (old.skips ≡ false) × Reaches old latest × (last : ℕ) × IsLastTaken old.lag (number old) (max old.mark latest.manifest.replay_after_wal_id) o last × ((key : List ℕ) × GoingLacks x o latest last old key)
+on-taking x o latest old floor same (inl goes) = goes
+on-taking x o latest old floor same (inr (not_on, last, read, (key, (batches, found, logs, lacks)))) = by old.skips refl where
+  by : (s : Bool) → old.skips ≡ s → (old.skips ≡ false) × Reaches old latest × (last : ℕ) × IsLastTaken old.lag (number old) (max old.mark latest.manifest.replay_after_wal_id) o last × ((key : List ℕ) × GoingLacks x o latest last old key)
+  by false reads = (let goes = goes-same old latest floor same false reads in absurd (cc))
+  by true skips =
+      let m = latest.manifest.replay_after_wal_id in
+      let at = skipped-last old latest o last skips read in
+      let none = none-replayed m latest.manifest.last_l0_seq o batches found (subst (λ k. Replays m k latest.manifest.last_l0_seq [] batches o (Ok found)) at logs) in
+      absurd (none-lacks x key (ap (λ bs. unsegmented_refusal x (ops_of bs)) (sym none.0) ∙ lacks))
 
 -- so a poll does, which finds this manifest first
 module _ {t t1 : Option Objects} (x : Option Extractor) (latest : VersionedManifest) (kept : t1 ≡ t) (found : IfSome t (λ o. FindsLatest o (Ok latest))) (lease : Lease) (moment : ℤ) (old : Follower) where
@@ -148,14 +151,9 @@ module _ {t t1 : Option Objects} (x : Option Extractor) (latest : VersionedManif
       keep-by {P = λ o. ComesFrom old from o × ReplaceLacks x (replacement old.view latest lease moment) from o} both
       (λ o is why. elim why.1 [ inl plan ↦ (latest, is, inl (to-replace old.view latest lease moment replaced ∙ plan)) | inr next ↦ (latest, is, inr (inl (from, why.0, next))) ])
 
-  pub news-keeps : old.mode ≡ ManagedCheckpoint → old.line.floor ≡ old.view.manifest.last_l0_seq → differs old.view latest ≡ false → IfSome t1 (λ o. NewsLacks x old latest o) → IfSome t (λ o. KeepLacks x lease moment old o)
+  pub news-keeps : old.mode ≡ ManagedCheckpoint → old.line.floor ≡ old.view.manifest.last_l0_seq → differs old.view latest ≡ false → IfSome t1 (λ o. TakingLacks x o latest old) → IfSome t (λ o. KeepLacks x lease moment old o)
   news-keeps managed floor same lacks =
-      let tabled = tabled-same old.view latest same in
-      let reaches : Reaches old latest = (omega (arith, tabled), omega (arith, tabled, floor)) in
-      keep-by {P = λ o. NewsLacks x old latest o} lacks
-      (λ o is why.
-      let here = subst (λ n. Lacks x (batches_above n (old.line.batches ++ why.1)) why.0) tabled why.7 in
-      (latest, is, inr (inr (managed, why.3, reaches, why.4, why.5, (why.0, (why.1, why.2, why.6, here))))))
+      keep-by {P = λ o. TakingLacks x o latest old} lacks (λ o is why. (latest, is, inr (inr (managed, on-taking x o latest old floor same why))))
 
   pub renew-keeps : replaces old.view lease moment latest ≡ false → is_due moment lease ≡ true → (held lease' : Option Lease) (t' : Option Objects) →
       WhereModelled (λ o o'. PutsBy {A = Unit {0}} unrefused (renewal old.view latest lease moment) held o (Err errors.InvalidDBState) lease' o') t1 t' → IfSome t (λ o. KeepLacks x lease moment old o)

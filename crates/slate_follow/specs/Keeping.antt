@@ -1,7 +1,7 @@
 -- What the steps of a reader that keeps a checkpoint of its own put and answer.
 use Rattle.std.specs.Prelude.{◌≡◌, ℕ, ℤ, ◌+◌, ◌*◌, ◌<◌, ◌≤◌, ◌⊎◌, ◌||◌, if◌then◌else◌, Bool, true, false, max, List, [], ◌++◌, length, Option, Some, None, Result, Ok, Err, IfErr, IfSome, IsSome}
 use Rattle.slate_types.specs.declared.batches.Batch.{Batch}
-use Rattle.slate_types.specs.Line.{batches_above, end}
+use Rattle.slate_types.specs.Line.{end}
 use Rattle.slate_types.specs.declared.store_errors.StoreFault.TheVariants.{Unavailable}
 use Rattle.slate_store.specs.declared.objects.VersionedManifest.{VersionedManifest}
 use Rattle.slate_store.specs.declared.reader_modes.DbReaderMode.TheVariants.{ManagedCheckpoint}
@@ -28,7 +28,8 @@ use Rattle.slate_model.specs.declared.answers.PollAnswer.{PollAnswer}
 use Rattle.slate_model.specs.declared.leases.Lease.{Lease}
 use Rattle.slate_follow.specs.declared.keeps.Kept.{Kept}
 use Rattle.slate_follow.specs.Lagging.{IsLastTaken}
-use Rattle.slate_follow.specs.Rebuilding.{Builds, GoingLacks, Lacks, Reaches, TakesUnder, TakingLacks, followed, new_logs, reached}
+use Rattle.slate_follow.specs.Rebuilding.{Builds, GoingLacks, Reaches, TakesUnder, TakingLacks, answer_of, followed, new_logs, reached}
+use Rattle.slate_follow.specs.Takings.{Taking, installed}
 
 -- the latest manifest, or why it wasn't read
 abbrev pub FindsLatest : Objects → Result VersionedManifest SlateError → Type 0
@@ -122,6 +123,12 @@ pub record TakesLatest (plan : Plan Lease) (old : Follower) (objects : Objects) 
   pub puts : plan ≡ Ok (Some follower.view, given)
   pub takes : TakesUnder objects follower.view old (follower_under follower.view follower) answer
 
+-- or has what its poll found before the plan was put
+abbrev pub Replaces : Plan Lease → Taking → (old new : Follower) → PollAnswer → Type 0
+Replaces plan taking old new answer =
+    (next : VersionedManifest) × (given : Lease) × (plan ≡ Ok (Some next, given)) × (new ≡ record (installed next taking old) { lease = Some given })
+    × (answer ≡ answer_of taking.replayed (number new))
+
 -- What log files have that a reader hasn't replayed yet, under the latest manifest: nothing, for one that skips them.
 abbrev pub IsNews : Objects → Follower → (latest : VersionedManifest) → (skips : Bool) → List Batch → Replayed → (mark : ℕ) → Type 0
 IsNews objects follower latest true added found mark =
@@ -141,14 +148,6 @@ IsOfPolling errors.InvalidDBState = Unit {0}
 IsOfPolling (errors.ObjectStoreError Unavailable) = Unit {0}
 IsOfPolling errors.NoMemory = Unit {0}
 IsOfPolling error = ⊥
-
--- a key of what a reader has, with what log files have that it hasn't replayed yet under the latest manifest, has no segment
-abbrev pub NewsLacks : Option Extractor → Follower → (latest : VersionedManifest) → Objects → Type 0
-NewsLacks extractor follower latest objects =
-    (key : List ℕ) × (added : List Batch) × (found : Replayed) × (follower.skips ≡ false)
-    × (last : ℕ) × IsLastTaken follower.lag (number follower) (max follower.mark latest.manifest.replay_after_wal_id) objects last
-    × Replays (max follower.mark latest.manifest.replay_after_wal_id) last (number follower) [] added objects (Ok found)
-    × Lacks extractor (batches_above follower.view.manifest.last_l0_seq (follower.line.batches ++ added)) key
 
 -- A reader is at the number where it was, with no mark past the latest replay mark but its own, or at the end of what is stored, which
 -- it would have lagged behind further than it may.

@@ -1,5 +1,4 @@
 pub mod Answering
-pub mod Arriving
 pub mod Begun
 pub mod Following
 pub mod Joined

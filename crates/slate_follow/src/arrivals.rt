@@ -9,7 +9,6 @@ ghost use Rattle.slate_follow.specs.Stepping.{ArrivalLacks, FitsReader, failed_b
 
 use crate::FollowerState;
 use crate::machines::PollMachine;
-use crate::takings::taking_anew;
 use slate_errors::SlateError;
 use slate_reads::IndexedTable;
 use slate_replay::Replayed;
@@ -41,11 +40,8 @@ impl FollowerState {
         let fresh = mem::replace(&mut machine.fresh, IndexedTable::new(alloc));
         let view = machine.view.take();
         let tabled = self.tabled_by(&view);
-        let taken = if machine.keeps {
-            self.taking_after(alloc, tabled, fresh, mark, replayed, extractor)?
-        } else {
-            taking_anew(alloc, tabled, fresh, mark, replayed, extractor)?
-        };
+        let keeps = machine.keeps;
+        let taken = self.taking_up(alloc, keeps, tabled, fresh, mark, replayed, extractor)?;
         self.lease = lease;
         self.install(view, taken);
         Ok(())

@@ -82,10 +82,12 @@ impl FollowerState {
         ensures calls { IfSome (S.objects store.old) (λ o. S.calls store.new ≤ S.calls store.old + (new_logs self.now view.now o + 1)) }
     {
         if self.goes_on(view) {
-            return self.taking_more(alloc, store, view, extractor);
+            let taken = self.taking_more(alloc, store, view, extractor)?;
+            return Ok(taken);
         }
         let last = self.last_read(alloc, store, view)?;
-        taking_all(alloc, store, view, last, extractor)
+        let taken = taking_all(alloc, store, view, last, extractor)?;
+        Ok(taken)
     }
 
     /// The last log file that it replays where it begins by the tables of a manifest.
@@ -142,7 +144,8 @@ impl FollowerState {
         let mut fresh = IndexedTable::new(alloc);
         let replayed = replay(alloc, store, &mut fresh, number, from, last)?;
         let mark = reached(replayed, last);
-        self.taking_after(alloc, tabled, fresh, mark, replayed, extractor)
+        let taken = self.taking_after(alloc, tabled, fresh, mark, replayed, extractor)?;
+        Ok(taken)
     }
 }
 
@@ -169,5 +172,6 @@ fn taking_all<S: Store, E: PrefixExtractor>(
     let (memory, replayed) = recover(alloc, store, &view.manifest, last)?;
     let tabled = view.manifest.last_l0_seq;
     let mark = reached(replayed, last);
-    taking_anew(alloc, tabled, memory, mark, replayed, extractor)
+    let taken = taking_anew(alloc, tabled, memory, mark, replayed, extractor)?;
+    Ok(taken)
 }

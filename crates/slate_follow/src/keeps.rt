@@ -6,17 +6,17 @@ ghost use Rattle.slate_store.specs.declared.reader_modes.DbReaderMode.TheVariant
 ghost use Rattle.slate_store.specs.Checkpoints.{found, to_refresh, to_write};
 ghost use Rattle.slate_store.specs.Refusals.{checkpoint_changes, planned};
 ghost use Rattle.slate_model.specs.Follow.{AnswersAt};
-ghost use Rattle.slate_model.specs.Follower.{HasSegments, number};
+ghost use Rattle.slate_model.specs.Follower.{HasSegments, is_pinned, number};
 ghost use Rattle.slate_model.specs.Known.{CountsFaults, known};
 ghost use Rattle.slate_model.specs.Lease.{differs, is_due, leased, to_keep};
 ghost use Rattle.slate_model.specs.Managed.{IsOpenAt, Keeps, KeepsOrNot, PollsLeased, PutsPlanned, PutsRenewal, poll_result, unrefused};
 ghost use Rattle.slate_model.specs.Segments.{Extractor, IsExtractor};
 ghost use Rattle.slate_model.specs.Open.{replayed_logs};
 ghost use Rattle.slate_model.specs.Stores.{Stands, by_objects};
-ghost use Rattle.slate_follow.specs.Keeping.{CallsKeeping, CallsRound, HasTaken, KeepLacks, LeftBy, MayLack, MovesBy, PutsBy, ReplaceLacks, TakesLatest, answered, kept_answer, put_tried};
+ghost use Rattle.slate_follow.specs.Keeping.{CallsKeeping, CallsRound, HasTaken, IsOfPolling, KeepLacks, LeftBy, MayLack, MovesBy, PutsBy, ReplaceLacks, Replaces, TakesLatest, answered, kept_answer, put_tried};
 ghost use Rattle.slate_follow.specs.Answering.{IsOfPoll};
 ghost use Rattle.slate_follow.specs.Lagging.{readings};
-ghost use Rattle.slate_follow.specs.Rebuilding.{TakesUnder, Truncates, answer_of, new_logs};
+ghost use Rattle.slate_follow.specs.Rebuilding.{TakesUnder, TakingLacks, Truncates, answer_of, new_logs};
 ghost use Rattle.slate_follow.specs.Takings.{Gives, HasOwn, installed};
 
 use crate::leases::{latest_of, put_next, with_new_lease, with_renewed_lease};
@@ -184,20 +184,43 @@ impl FollowerState {
         if differs(self.status.manifest(), &latest) {
             return self.replace_lease(alloc, store, lease, &latest, extractor, moment);
         }
-        let taken = match self.taking_under(alloc, store, &latest, extractor) {
-            Ok(taken) => taken,
-            Err(error) => return Err(poll_error(error)),
-        };
+        let taken = self.taking_new(alloc, store, &latest, extractor)?;
         if !lease.is_due(moment) {
             return Ok(Some(self.stay(taken)));
         }
         if find_checkpoint(&latest, lease.id).is_none() {
             return self.replace_missing(alloc, store, lease, &latest, taken, moment);
         }
-        if !self.renew_lease(alloc, store, lease, &latest, moment)? {
+        let renewed = self.renew_lease(alloc, store, lease, &latest, moment)?;
+        if !renewed {
             return Ok(None);
         }
         Ok(Some(self.stay(taken)))
+    }
+
+    /// What it takes under the latest manifest. A key without a segment is refused as a poll does.
+    fn taking_new<S: Store, E: PrefixExtractor>(
+        &self,
+        alloc: Global,
+        store: &mut S,
+        latest: &VersionedManifest,
+        extractor: Option<&E>,
+    ) -> Result<Taken, SlateError>
+        requires open_ { self.now.result ≡ None }
+        requires free { is_pinned self.now.mode ≡ false }
+        ensures faults { CountsFaults (S.faults store.old) (S.faults store.new) result }
+        ensures kept { S.objects store.new ≡ S.objects store.old }
+        ensures floor { IfOk result (λ taken. taken.line.floor ≡ latest.now.manifest.last_l0_seq) }
+        ensures takes { IfOk result (λ taken. IfSome (S.objects store.old) (λ o. Gives (TakesUnder o latest.now self.now) latest.now self.now taken)) }
+        ensures segments { (x : Option Extractor) → IsExtractor E.may_name E.may_extract (option_copied extractor.entry) x → HasSegments x self.now → IfOk result (HasOwn x) }
+        ensures lacks { (x : Option Extractor) → IsExtractor E.may_name E.may_extract (option_copied extractor.entry) x → result ≡ Err SlateError.InvalidDBState → IfSome (S.objects store.old) (λ o. TakingLacks x o latest.now self.now) }
+        ensures refusals { IfErr result IsOfPolling }
+        ensures calls { IfSome (S.objects store.old) (λ o. S.calls store.new ≤ S.calls store.old + (new_logs self.now latest.now o + 1)) }
+    {
+        match self.taking_under(alloc, store, latest, extractor) {
+            Ok(taken) => Ok(taken),
+            Err(error) => Err(poll_error(error)),
+        }
     }
 
     /// Has what a poll found, and stays at the manifest that it goes by.
@@ -275,19 +298,15 @@ impl FollowerState {
         requires open_ { self.old.result ≡ None }
         requires leased { self.old.lease ≡ Some lease.now }
         requires floor { taken.line.floor ≡ latest.now.manifest.last_l0_seq }
-        requires takes { IfSome (S.objects store.old) (λ o. Gives (TakesUnder o latest.now self.old) latest.now self.old taken) }
         ensures faults { CountsFaults (S.faults store.old) (S.faults store.new) result }
         ensures puts { WhereModelled (λ o o'. PutsBy MayLack (leased lease.now.lifetime (to_write (Some lease.now.id) (Some lease.now.lifetime) moment latest.now)) self.old.lease o (answered result) self.new.lease o') (S.objects store.old) (S.objects store.new) }
-        ensures taken { IfOk (answered result) (λ answer. IfSome (S.objects store.new) (λ o'. TakesLatest (leased lease.now.lifetime (to_write (Some lease.now.id) (Some lease.now.lifetime) moment latest.now)) self.old o' self.new answer)) }
-        ensures answers { IfOk (answered result) (λ answer. IsOpenAt self.old.skips self.old.lag self.new answer) }
+        ensures becomes { IfOk (answered result) (λ answer. Replaces (leased lease.now.lifetime (to_write (Some lease.now.id) (Some lease.now.lifetime) moment latest.now)) taken self.old self.new answer) }
         ensures failed { IfErr (answered result) (λ _. self.new ≡ record self.old { lease = self.new.lease }) }
         ensures again { result ≡ Ok None → (self.new ≡ self.old) × (S.objects store.new ≡ S.objects store.old) }
-        ensures truncates { IfOk (answered result) (λ answer. IfSome (S.objects store.old) (λ o. Truncates o self.new answer)) }
         ensures kind { IfErr result (IsOfPoll ManagedCheckpoint) }
         ensures free { IfOk (answered result) (λ _. IfSome (S.objects store.old) (λ o. Stands (planned (leased lease.now.lifetime (to_write (Some lease.now.id) (Some lease.now.lifetime) moment latest.now))) o → ⊥)) }
         ensures calls { S.calls store.new ≤ S.calls store.old + 1 }
         ensures moved { IfOk result (λ found. IfSome found (λ kept. kept.moved ≡ false)) }
-        ensures segments { (x : Option Extractor) → HasOwn x taken → IfOk (answered result) (λ _. HasSegments x self.new) }
         ensures lacks { (x : Option Extractor) → result ≡ Err SlateError.InvalidDBState →
             IfSome (S.objects store.old) (λ o. ReplaceLacks x (leased lease.now.lifetime (to_write (Some lease.now.id) (Some lease.now.lifetime) moment latest.now)) self.old o) }
     {

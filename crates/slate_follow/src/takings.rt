@@ -1,5 +1,5 @@
 // What a poll found: it is made as a whole, and then the reader has it, which can't fail.
-ghost use Rattle.std.specs.Prelude.{◌≡◌, ◌⊎◌, ◌+◌, ◌<◌, ◌≤◌, ◌^◌, ◌++◌, ℕ, List, Option, Err, IfErr, IfOk, length, unwrap_or};
+ghost use Rattle.std.specs.Prelude.{◌≡◌, ◌⊎◌, ◌+◌, ◌<◌, ◌≤◌, ◌^◌, ◌++◌, ℕ, List, [], Option, Err, IfErr, IfOk, true, if◌then◌else◌, length, unwrap_or};
 ghost use Rattle.std.specs.Option.{option_copied};
 ghost use Rattle.slate_types.specs.Line.{AreNumberedFrom, batches_above};
 ghost use Rattle.slate_model.specs.Follow.{AnswersAt};
@@ -89,6 +89,33 @@ impl FollowerState {
         })
     }
 
+    /// What it takes that has fresh batches, after its own where it keeps these.
+    pub(crate) fn taking_up<E: PrefixExtractor>(
+        &self,
+        alloc: Global,
+        keeps: bool,
+        tabled: u64,
+        fresh: IndexedTable,
+        mark: u64,
+        replayed: Replayed,
+        extractor: Option<&E>,
+    ) -> Result<Taken, SlateError>
+        requires numbered { (floor : ℕ) × AreNumberedFrom floor fresh × (floor + length fresh < 2 ^ 64) × (keeps ≡ true → floor ≡ number self.now)
+            × ((if keeps then self.now.view.manifest.last_l0_seq else floor) ≤ tabled) × (tabled ≤ floor + length fresh) }
+        ensures line { IfOk result (λ taken. taken.line ≡ line_of tabled (batches_above tabled ((if keeps then self.now.line.batches else []) ++ fresh))) }
+        ensures found { IfOk result (λ taken. (taken.mark ≡ mark) × (taken.replayed ≡ replayed)) }
+        ensures segments { (x : Option Extractor) → IsExtractor E.may_name E.may_extract (option_copied extractor.entry) x → HasSegments x self.now → IfOk result (HasOwn x) }
+        ensures lacks { (x : Option Extractor) (key : List ℕ) → IsExtractor E.may_name E.may_extract (option_copied extractor.entry) x → result ≡ Err (SlateError.EmptySegmentPrefix key) →
+            (first : List ℕ) × Lacks x (batches_above tabled ((if keeps then self.now.line.batches else []) ++ fresh)) first }
+        ensures kind { IfErr result IsOfSegment }
+    {
+        if keeps {
+            self.taking_after(alloc, tabled, fresh, mark, replayed, extractor)
+        } else {
+            taking_anew(alloc, tabled, fresh, mark, replayed, extractor)
+        }
+    }
+
     /// The segments of its tables that are left above a number, and of fresh batches after them. It looks at its own batches only where
     /// the tables of its manifest don't end there.
     fn segments_after<E: PrefixExtractor>(
@@ -160,9 +187,10 @@ pub(crate) fn taking_anew<E: PrefixExtractor>(
     fresh.drop_through(tabled);
     let number = tabled + fresh.batches().len() as u64;
     let segments = replayed_segments(alloc, extractor, fresh.batches())?;
+    let tables = list_of(alloc, fresh)?;
     Ok(Taken {
         tabled,
-        tables: list_of(alloc, fresh)?,
+        tables,
         number,
         segments: Seq::of(segments),
         mark,

@@ -86,8 +86,8 @@ impl FollowerState {
             return Ok(taken);
         }
         let last = self.last_read(alloc, store, view)?;
-        let taken = taking_all(alloc, store, view, last, extractor)?;
-        Ok(taken)
+        let anew = taking_all(alloc, store, view, last, extractor)?;
+        Ok(anew)
     }
 
     /// The last log file that it replays where it begins by the tables of a manifest.

@@ -186,7 +186,11 @@ impl FollowerState {
         }
         let taken = self.taking_new(alloc, store, &latest, extractor)?;
         if !lease.is_due(moment) {
-            return Ok(Some(self.stay(taken)));
+            let answer = self.install(None, taken);
+            return Ok(Some(Kept {
+                answer,
+                moved: false,
+            }));
         }
         if find_checkpoint(&latest, lease.id).is_none() {
             return self.replace_missing(alloc, store, lease, &latest, taken, moment);
@@ -195,7 +199,11 @@ impl FollowerState {
         if !renewed {
             return Ok(None);
         }
-        Ok(Some(self.stay(taken)))
+        let answer = self.install(None, taken);
+        Ok(Some(Kept {
+            answer,
+            moved: false,
+        }))
     }
 
     /// What it takes under the latest manifest. A key without a segment is refused as a poll does.
@@ -220,21 +228,6 @@ impl FollowerState {
         match self.taking_under(alloc, store, latest, extractor) {
             Ok(taken) => Ok(taken),
             Err(error) => Err(poll_error(error)),
-        }
-    }
-
-    /// Has what a poll found, and stays at the manifest that it goes by.
-    fn stay(&mut self, taken: Taken) -> Kept
-        requires { taken.line.floor ≡ self.old.view.manifest.last_l0_seq }
-        ensures becomes { self.new ≡ installed self.old.view taken self.old }
-        ensures answer { result.answer ≡ answer_of taken.replayed (number self.new) }
-        ensures at { AnswersAt (number self.new) result.answer }
-        ensures moved { result.moved ≡ false }
-    {
-        let answer = self.install(None, taken);
-        Kept {
-            answer,
-            moved: false,
         }
     }
 

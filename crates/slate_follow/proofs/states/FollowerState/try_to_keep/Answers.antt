@@ -7,7 +7,7 @@ use Rattle.slate_store.specs.Checkpoints.{found}
 use Rattle.slate_store.specs.declared.reader_modes.DbReaderMode.TheVariants.{ManagedCheckpoint}
 use Rattle.slate_errors.specs.declared.errors.SlateError.{SlateError}
 use Rattle.slate_errors.specs.declared.errors.SlateError.TheVariants.{InvalidDBState, TransactionalObjectTimeout}
-use Rattle.slate_model.specs.Follower.{Follower, HasSegments, follower_tasks, number}
+use Rattle.slate_model.specs.Follower.{Follower, HasSegments, follower_tasks, is_pinned, number}
 use Rattle.slate_model.specs.Lease.{differs, is_due, replaces, to_keep}
 use Rattle.slate_model.specs.Managed.{IsOpenAt, unrefused}
 use Rattle.slate_model.specs.Stores.{Stands}
@@ -116,8 +116,6 @@ returns-then-differs-clause-free g c =
     let old = c.args.self.now in
     let t = g.S.Store.objects c.args.store.now in
     let t1 = g.S.Store.objects c.latest_of.new.store in
-    let held : c.self.inside.lease ≡ Some l = ap (λ (f : Follower). f.lease) c.self.view_is ∙ c.requires.leased in
-    let managed : old.mode ≡ ManagedCheckpoint = sym (ap (λ (f : Follower). f.mode) c.self.view_is) ∙ mode-leased c.self.inside.following.mode c.self.inside.lease l c.self.invariant.leased held in
     let r = c.replace_lease in
     let other : differs old.view v.latest ≡ true = search rules in
     let replaced : replaces old.view l m v.latest ≡ true = replaces-by old.view v.latest l m true _ _ other refl refl in
@@ -134,8 +132,6 @@ returns-in_err-taken-clause-puts g c =
     let m = c.args.moment in
     let old = c.args.self.now in
     let e = c.in_err-taken.field-0.0 in
-    let t = g.S.Store.objects c.args.store.now in
-    let t1 = g.S.Store.objects c.latest_of.new.store in
     let plan = to_keep old.view l m v.latest in
     let all = modelled-kept v.ensures.found (c.in_err-taken.ensures.kept ∙ v.ensures.kept) (λ o is. puts-by o v.latest is l m old plan refl (Err e) old o (nothing-put MayLack plan old.lease o e (polling-cause plan o e c.in_err-taken.ensures.refusals))) in
     let is : c.from_residual-in_err-taken.result ≡ Err e = search rules in
@@ -148,11 +144,8 @@ returns-in_err-taken-clause-lacks g c x lawful is =
     let m = c.args.moment in
     let old = c.args.self.now in
     let e = c.in_err-taken.field-0.0 in
-    let t = g.S.Store.objects c.args.store.now in
-    let t1 = g.S.Store.objects c.latest_of.new.store in
     let held : c.self.inside.lease ≡ Some l = ap (λ (f : Follower). f.lease) c.self.view_is ∙ c.requires.leased in
     let managed : old.mode ≡ ManagedCheckpoint = sym (ap (λ (f : Follower). f.mode) c.self.view_is) ∙ mode-leased c.self.inside.following.mode c.self.inside.lease l c.self.invariant.leased held in
-    let tasks : old.tasks ≡ follower_tasks old.mode = subst (λ (f : Follower). f.result ≡ None → f.tasks ≡ follower_tasks f.mode) c.self.view_is c.self.invariant.running c.requires.open_ in
     let floor : old.line.floor ≡ old.view.manifest.last_l0_seq = subst (λ (f : Follower). f.line.floor ≡ f.view.manifest.last_l0_seq) c.self.view_is refl in
     let same : differs old.view v.latest ≡ false = search rules in
     let p = err_from_is_err_and c.from_residual-in_err-taken.result c.from_residual-in_err-taken.ensures.1 in
@@ -170,7 +163,6 @@ returns-in_err-taken-clause-calls g c =
     let l = c.args.lease.now in
     let m = c.args.moment in
     let old = c.args.self.now in
-    let e = c.in_err-taken.field-0.0 in
     let t = g.S.Store.objects c.args.store.now in
     let t1 = g.S.Store.objects c.latest_of.new.store in
     let held : c.self.inside.lease ≡ Some l = ap (λ (f : Follower). f.lease) c.self.view_is ∙ c.requires.leased in
@@ -187,37 +179,28 @@ returns-then-not-is_due-clause-puts g c =
     let m = c.args.moment in
     let old = c.args.self.now in
     let t = g.S.Store.objects c.args.store.now in
-    let t1 = g.S.Store.objects c.latest_of.new.store in
     let e = c.in_ok-taken.ensures in
     let t2 = g.S.Store.objects c.taking_new.new.store in
     let kept : t2 ≡ t = e.kept ∙ v.ensures.kept in
     let same : differs old.view v.latest ≡ false = search rules in
     let early : is_due m l ≡ false = search rules in
     let unreplaced : replaces old.view l m v.latest ≡ false = replaces-by old.view v.latest l m false false _ same early refl in
-    let new = c.stay.new.self in
-    let answer = c.stay.result.answer in
-    let becomes : new ≡ record (installed old.view c.in_ok-taken.taken old) { lease = old.lease } = c.stay.ensures.becomes in
-    let answers : answer ≡ answer_of c.in_ok-taken.taken.replayed (number new) = c.stay.ensures.answer in
+    let new = c.install-answer.new.self in
+    let answer = c.install-answer.result in
+    let becomes : new ≡ record (installed old.view c.in_ok-taken.taken old) { lease = old.lease } = c.install-answer.ensures.becomes in
     let all = stays-puts t v.latest v.ensures.found l m old new unreplaced early c.requires.leased (ap (λ (f : Follower). f.lease) becomes ∙ c.requires.leased) answer kept in
     search (rules, all)
 
 pub returns-then-not-is_due-clause-answers : goal.returns-then-not-is_due-clause-answers
 returns-then-not-is_due-clause-answers g c =
-    let v = c.in_ok-latest in
     let l = c.args.lease.now in
-    let m = c.args.moment in
     let old = c.args.self.now in
-    let t = g.S.Store.objects c.args.store.now in
-    let t1 = g.S.Store.objects c.latest_of.new.store in
-    let e = c.in_ok-taken.ensures in
-    let t2 = g.S.Store.objects c.taking_new.new.store in
-    let kept : t2 ≡ t = e.kept ∙ v.ensures.kept in
     let held : c.self.inside.lease ≡ Some l = ap (λ (f : Follower). f.lease) c.self.view_is ∙ c.requires.leased in
     let managed : old.mode ≡ ManagedCheckpoint = sym (ap (λ (f : Follower). f.mode) c.self.view_is) ∙ mode-leased c.self.inside.following.mode c.self.inside.lease l c.self.invariant.leased held in
-    let new = c.stay.new.self in
-    let answer = c.stay.result.answer in
-    let becomes : new ≡ record (installed old.view c.in_ok-taken.taken old) { lease = old.lease } = c.stay.ensures.becomes in
-    let answers : answer ≡ answer_of c.in_ok-taken.taken.replayed (number new) = c.stay.ensures.answer in
+    let new = c.install-answer.new.self in
+    let answer = c.install-answer.result in
+    let becomes : new ≡ record (installed old.view c.in_ok-taken.taken old) { lease = old.lease } = c.install-answer.ensures.becomes in
+    let answers : answer ≡ answer_of c.in_ok-taken.taken.replayed (number new) = c.install-answer.ensures.answer in
     has-open old.view c.in_ok-taken.taken old.lease old new answer becomes answers managed c.requires.open_
 
 pub returns-then-not-is_due-clause-keeps : goal.returns-then-not-is_due-clause-keeps
@@ -227,7 +210,6 @@ returns-then-not-is_due-clause-keeps g c =
     let m = c.args.moment in
     let old = c.args.self.now in
     let t = g.S.Store.objects c.args.store.now in
-    let t1 = g.S.Store.objects c.latest_of.new.store in
     let e = c.in_ok-taken.ensures in
     let t2 = g.S.Store.objects c.taking_new.new.store in
     let kept : t2 ≡ t = e.kept ∙ v.ensures.kept in
@@ -238,10 +220,10 @@ returns-then-not-is_due-clause-keeps g c =
     let same : differs old.view v.latest ≡ false = search rules in
     let early : is_due m l ≡ false = search rules in
     let unreplaced : replaces old.view l m v.latest ≡ false = replaces-by old.view v.latest l m false false _ same early refl in
-    let new = c.stay.new.self in
-    let answer = c.stay.result.answer in
-    let becomes : new ≡ record (installed old.view c.in_ok-taken.taken old) { lease = old.lease } = c.stay.ensures.becomes in
-    let answers : answer ≡ answer_of c.in_ok-taken.taken.replayed (number new) = c.stay.ensures.answer in
+    let new = c.install-answer.new.self in
+    let answer = c.install-answer.result in
+    let becomes : new ≡ record (installed old.view c.in_ok-taken.taken old) { lease = old.lease } = c.install-answer.ensures.becomes in
+    let answers : answer ≡ answer_of c.in_ok-taken.taken.replayed (number new) = c.install-answer.ensures.answer in
     let all = stays-kept t v.latest v.ensures.found l m old new managed c.requires.open_ tasks floor same c.in_ok-taken.taken answer answers t2 kept (subst (λ s. IfSome s (λ o. Gives (TakesUnder o v.latest old) v.latest old c.in_ok-taken.taken)) (sym e.kept) e.takes)
     (becomes ∙ ap (λ x. record (installed old.view c.in_ok-taken.taken old) { lease = x }) (sym (ap (λ (f : Follower). f.lease) becomes))) unreplaced early (ap (λ (f : Follower). f.lease) becomes ∙ c.requires.leased) in
     search (rules, all)
@@ -249,36 +231,25 @@ returns-then-not-is_due-clause-keeps g c =
 pub returns-then-not-is_due-clause-truncates : goal.returns-then-not-is_due-clause-truncates
 returns-then-not-is_due-clause-truncates g c =
     let v = c.in_ok-latest in
-    let l = c.args.lease.now in
-    let m = c.args.moment in
     let old = c.args.self.now in
     let t = g.S.Store.objects c.args.store.now in
-    let t1 = g.S.Store.objects c.latest_of.new.store in
     let e = c.in_ok-taken.ensures in
-    let t2 = g.S.Store.objects c.taking_new.new.store in
-    let kept : t2 ≡ t = e.kept ∙ v.ensures.kept in
-    let new = c.stay.new.self in
-    let answer = c.stay.result.answer in
-    let becomes : new ≡ record (installed old.view c.in_ok-taken.taken old) { lease = old.lease } = c.stay.ensures.becomes in
-    let answers : answer ≡ answer_of c.in_ok-taken.taken.replayed (number new) = c.stay.ensures.answer in
+    let new = c.install-answer.new.self in
+    let answer = c.install-answer.result in
+    let becomes : new ≡ record (installed old.view c.in_ok-taken.taken old) { lease = old.lease } = c.install-answer.ensures.becomes in
+    let answers : answer ≡ answer_of c.in_ok-taken.taken.replayed (number new) = c.install-answer.ensures.answer in
     has-truncated old.view c.in_ok-taken.taken old.lease old new answer becomes answers v.latest t (subst (λ s. IfSome s (λ o. Gives (TakesUnder o v.latest old) v.latest old c.in_ok-taken.taken)) v.ensures.kept e.takes)
 
 pub returns-then-not-is_due-clause-segments : goal.returns-then-not-is_due-clause-segments
 returns-then-not-is_due-clause-segments g c x lawful has =
     let v = c.in_ok-latest in
-    let l = c.args.lease.now in
-    let m = c.args.moment in
     let old = c.args.self.now in
-    let t = g.S.Store.objects c.args.store.now in
-    let t1 = g.S.Store.objects c.latest_of.new.store in
     let e = c.in_ok-taken.ensures in
-    let t2 = g.S.Store.objects c.taking_new.new.store in
-    let kept : t2 ≡ t = e.kept ∙ v.ensures.kept in
     let same : differs old.view v.latest ≡ false = search rules in
-    let new = c.stay.new.self in
-    let answer = c.stay.result.answer in
-    let becomes : new ≡ record (installed old.view c.in_ok-taken.taken old) { lease = old.lease } = c.stay.ensures.becomes in
-    let answers : answer ≡ answer_of c.in_ok-taken.taken.replayed (number new) = c.stay.ensures.answer in
+    let new = c.install-answer.new.self in
+    let answer = c.install-answer.result in
+    let becomes : new ≡ record (installed old.view c.in_ok-taken.taken old) { lease = old.lease } = c.install-answer.ensures.becomes in
+    let answers : answer ≡ answer_of c.in_ok-taken.taken.replayed (number new) = c.install-answer.ensures.answer in
     has-segments old.view c.in_ok-taken.taken old.lease old new answer becomes answers x (e.floor ∙ sym (tabled-same old.view v.latest same)) (e.segments x lawful has)
 
 pub returns-then-not-is_due-clause-calls : goal.returns-then-not-is_due-clause-calls
@@ -290,8 +261,6 @@ returns-then-not-is_due-clause-calls g c =
     let t = g.S.Store.objects c.args.store.now in
     let t1 = g.S.Store.objects c.latest_of.new.store in
     let e = c.in_ok-taken.ensures in
-    let t2 = g.S.Store.objects c.taking_new.new.store in
-    let kept : t2 ≡ t = e.kept ∙ v.ensures.kept in
     let held : c.self.inside.lease ≡ Some l = ap (λ (f : Follower). f.lease) c.self.view_is ∙ c.requires.leased in
     let managed : old.mode ≡ ManagedCheckpoint = sym (ap (λ (f : Follower). f.mode) c.self.view_is) ∙ mode-leased c.self.inside.following.mode c.self.inside.lease l c.self.invariant.leased held in
     let k = g.S.Store.calls c.args.store.now in
@@ -308,8 +277,6 @@ returns-then-not-is_due-clause-costs g c =
     let t = g.S.Store.objects c.args.store.now in
     let t1 = g.S.Store.objects c.latest_of.new.store in
     let e = c.in_ok-taken.ensures in
-    let t2 = g.S.Store.objects c.taking_new.new.store in
-    let kept : t2 ≡ t = e.kept ∙ v.ensures.kept in
     let held : c.self.inside.lease ≡ Some l = ap (λ (f : Follower). f.lease) c.self.view_is ∙ c.requires.leased in
     let managed : old.mode ≡ ManagedCheckpoint = sym (ap (λ (f : Follower). f.mode) c.self.view_is) ∙ mode-leased c.self.inside.following.mode c.self.inside.lease l c.self.invariant.leased held in
     let same : differs old.view v.latest ≡ false = search rules in
@@ -326,10 +293,6 @@ returns-then-not-is_due-clause-free g c =
     let m = c.args.moment in
     let old = c.args.self.now in
     let t = g.S.Store.objects c.args.store.now in
-    let t1 = g.S.Store.objects c.latest_of.new.store in
-    let e = c.in_ok-taken.ensures in
-    let t2 = g.S.Store.objects c.taking_new.new.store in
-    let kept : t2 ≡ t = e.kept ∙ v.ensures.kept in
     let same : differs old.view v.latest ≡ false = search rules in
     let early : is_due m l ≡ false = search rules in
     let unreplaced : replaces old.view l m v.latest ≡ false = replaces-by old.view v.latest l m false false _ same early refl in
@@ -347,7 +310,6 @@ returns-then-is_none-clause-puts g c =
     let m = c.args.moment in
     let old = c.args.self.now in
     let t = g.S.Store.objects c.args.store.now in
-    let t1 = g.S.Store.objects c.latest_of.new.store in
     let e = c.in_ok-taken.ensures in
     let t2 = g.S.Store.objects c.taking_new.new.store in
     let kept : t2 ≡ t = e.kept ∙ v.ensures.kept in
@@ -367,11 +329,6 @@ returns-then-is_none-clause-answers g c =
     let l = c.args.lease.now in
     let m = c.args.moment in
     let old = c.args.self.now in
-    let t = g.S.Store.objects c.args.store.now in
-    let t1 = g.S.Store.objects c.latest_of.new.store in
-    let e = c.in_ok-taken.ensures in
-    let t2 = g.S.Store.objects c.taking_new.new.store in
-    let kept : t2 ≡ t = e.kept ∙ v.ensures.kept in
     let r = c.replace_missing in
     let held : c.self.inside.lease ≡ Some l = ap (λ (f : Follower). f.lease) c.self.view_is ∙ c.requires.leased in
     let managed : old.mode ≡ ManagedCheckpoint = sym (ap (λ (f : Follower). f.mode) c.self.view_is) ∙ mode-leased c.self.inside.following.mode c.self.inside.lease l c.self.invariant.leased held in
@@ -386,7 +343,6 @@ returns-then-is_none-clause-keeps g c =
     let m = c.args.moment in
     let old = c.args.self.now in
     let t = g.S.Store.objects c.args.store.now in
-    let t1 = g.S.Store.objects c.latest_of.new.store in
     let e = c.in_ok-taken.ensures in
     let t2 = g.S.Store.objects c.taking_new.new.store in
     let kept : t2 ≡ t = e.kept ∙ v.ensures.kept in
@@ -413,10 +369,7 @@ returns-then-is_none-clause-truncates g c =
     let m = c.args.moment in
     let old = c.args.self.now in
     let t = g.S.Store.objects c.args.store.now in
-    let t1 = g.S.Store.objects c.latest_of.new.store in
     let e = c.in_ok-taken.ensures in
-    let t2 = g.S.Store.objects c.taking_new.new.store in
-    let kept : t2 ≡ t = e.kept ∙ v.ensures.kept in
     let r = c.replace_missing in
     let undone = to_z-of_z {w = w64} {z = m} (search rules) in
     let became = subst (λ m. IfOk (answered r.result) (λ answer. Replaces (replacement old.view v.latest l m) c.in_ok-taken.taken old r.new.self answer)) undone r.ensures.becomes in
@@ -428,13 +381,8 @@ returns-then-is_none-clause-segments g c x lawful has =
     let l = c.args.lease.now in
     let m = c.args.moment in
     let old = c.args.self.now in
-    let t = g.S.Store.objects c.args.store.now in
-    let t1 = g.S.Store.objects c.latest_of.new.store in
     let e = c.in_ok-taken.ensures in
-    let t2 = g.S.Store.objects c.taking_new.new.store in
-    let kept : t2 ≡ t = e.kept ∙ v.ensures.kept in
     let r = c.replace_missing in
-    let same : differs old.view v.latest ≡ false = search rules in
     let undone = to_z-of_z {w = w64} {z = m} (search rules) in
     let became = subst (λ m. IfOk (answered r.result) (λ answer. Replaces (replacement old.view v.latest l m) c.in_ok-taken.taken old r.new.self answer)) undone r.ensures.becomes in
     replaced-segments x l m v.latest c.in_ok-taken.taken old r.new.self e.floor (e.segments x lawful has) has (answered r.result) became r.ensures.failed
@@ -442,11 +390,7 @@ returns-then-is_none-clause-segments g c x lawful has =
 pub returns-then-is_none-clause-again : goal.returns-then-is_none-clause-again
 returns-then-is_none-clause-again g c =
     let v = c.in_ok-latest in
-    let l = c.args.lease.now in
-    let m = c.args.moment in
-    let old = c.args.self.now in
     let t = g.S.Store.objects c.args.store.now in
-    let t1 = g.S.Store.objects c.latest_of.new.store in
     let e = c.in_ok-taken.ensures in
     let t2 = g.S.Store.objects c.taking_new.new.store in
     let kept : t2 ≡ t = e.kept ∙ v.ensures.kept in
@@ -464,7 +408,6 @@ returns-then-is_none-clause-free g c =
     let m = c.args.moment in
     let old = c.args.self.now in
     let t = g.S.Store.objects c.args.store.now in
-    let t1 = g.S.Store.objects c.latest_of.new.store in
     let e = c.in_ok-taken.ensures in
     let t2 = g.S.Store.objects c.taking_new.new.store in
     let kept : t2 ≡ t = e.kept ∙ v.ensures.kept in
@@ -486,8 +429,6 @@ returns-then-is_none-clause-calls g c =
     let t = g.S.Store.objects c.args.store.now in
     let t1 = g.S.Store.objects c.latest_of.new.store in
     let e = c.in_ok-taken.ensures in
-    let t2 = g.S.Store.objects c.taking_new.new.store in
-    let kept : t2 ≡ t = e.kept ∙ v.ensures.kept in
     let held : c.self.inside.lease ≡ Some l = ap (λ (f : Follower). f.lease) c.self.view_is ∙ c.requires.leased in
     let managed : old.mode ≡ ManagedCheckpoint = sym (ap (λ (f : Follower). f.mode) c.self.view_is) ∙ mode-leased c.self.inside.following.mode c.self.inside.lease l c.self.invariant.leased held in
     let k = g.S.Store.calls c.args.store.now in
@@ -504,8 +445,6 @@ returns-then-is_none-clause-costs g c =
     let t = g.S.Store.objects c.args.store.now in
     let t1 = g.S.Store.objects c.latest_of.new.store in
     let e = c.in_ok-taken.ensures in
-    let t2 = g.S.Store.objects c.taking_new.new.store in
-    let kept : t2 ≡ t = e.kept ∙ v.ensures.kept in
     let held : c.self.inside.lease ≡ Some l = ap (λ (f : Follower). f.lease) c.self.view_is ∙ c.requires.leased in
     let managed : old.mode ≡ ManagedCheckpoint = sym (ap (λ (f : Follower). f.mode) c.self.view_is) ∙ mode-leased c.self.inside.following.mode c.self.inside.lease l c.self.invariant.leased held in
     let due : is_due m l ≡ true = search rules in
@@ -521,7 +460,6 @@ returns-then-is_none-clause-lacks g c x lawful is =
     let m = c.args.moment in
     let old = c.args.self.now in
     let t = g.S.Store.objects c.args.store.now in
-    let t1 = g.S.Store.objects c.latest_of.new.store in
     let e = c.in_ok-taken.ensures in
     let t2 = g.S.Store.objects c.taking_new.new.store in
     let kept : t2 ≡ t = e.kept ∙ v.ensures.kept in
@@ -550,7 +488,6 @@ returns-in_err-renewed-clause-puts g c =
     let m = c.args.moment in
     let old = c.args.self.now in
     let t = g.S.Store.objects c.args.store.now in
-    let t1 = g.S.Store.objects c.latest_of.new.store in
     let e = c.in_ok-taken.ensures in
     let t2 = g.S.Store.objects c.taking_new.new.store in
     let kept : t2 ≡ t = e.kept ∙ v.ensures.kept in
@@ -574,7 +511,6 @@ returns-in_err-renewed-clause-lacks g c x lawful is =
     let m = c.args.moment in
     let old = c.args.self.now in
     let t = g.S.Store.objects c.args.store.now in
-    let t1 = g.S.Store.objects c.latest_of.new.store in
     let e = c.in_ok-taken.ensures in
     let t2 = g.S.Store.objects c.taking_new.new.store in
     let kept : t2 ≡ t = e.kept ∙ v.ensures.kept in
@@ -600,8 +536,6 @@ returns-in_err-renewed-clause-calls g c =
     let t = g.S.Store.objects c.args.store.now in
     let t1 = g.S.Store.objects c.latest_of.new.store in
     let e = c.in_ok-taken.ensures in
-    let t2 = g.S.Store.objects c.taking_new.new.store in
-    let kept : t2 ≡ t = e.kept ∙ v.ensures.kept in
     let held : c.self.inside.lease ≡ Some l = ap (λ (f : Follower). f.lease) c.self.view_is ∙ c.requires.leased in
     let managed : old.mode ≡ ManagedCheckpoint = sym (ap (λ (f : Follower). f.mode) c.self.view_is) ∙ mode-leased c.self.inside.following.mode c.self.inside.lease l c.self.invariant.leased held in
     let k = g.S.Store.calls c.args.store.now in
@@ -620,7 +554,6 @@ returns-then-not-renewed-clause-puts g c =
     let m = c.args.moment in
     let old = c.args.self.now in
     let t = g.S.Store.objects c.args.store.now in
-    let t1 = g.S.Store.objects c.latest_of.new.store in
     let e = c.in_ok-taken.ensures in
     let t2 = g.S.Store.objects c.taking_new.new.store in
     let kept : t2 ≡ t = e.kept ∙ v.ensures.kept in
@@ -641,11 +574,7 @@ returns-then-not-renewed-clause-puts g c =
 pub returns-then-not-renewed-clause-again : goal.returns-then-not-renewed-clause-again
 returns-then-not-renewed-clause-again g c =
     let v = c.in_ok-latest in
-    let l = c.args.lease.now in
-    let m = c.args.moment in
-    let old = c.args.self.now in
     let t = g.S.Store.objects c.args.store.now in
-    let t1 = g.S.Store.objects c.latest_of.new.store in
     let e = c.in_ok-taken.ensures in
     let t2 = g.S.Store.objects c.taking_new.new.store in
     let kept : t2 ≡ t = e.kept ∙ v.ensures.kept in
@@ -661,8 +590,6 @@ returns-then-not-renewed-clause-calls g c =
     let t = g.S.Store.objects c.args.store.now in
     let t1 = g.S.Store.objects c.latest_of.new.store in
     let e = c.in_ok-taken.ensures in
-    let t2 = g.S.Store.objects c.taking_new.new.store in
-    let kept : t2 ≡ t = e.kept ∙ v.ensures.kept in
     let held : c.self.inside.lease ≡ Some l = ap (λ (f : Follower). f.lease) c.self.view_is ∙ c.requires.leased in
     let managed : old.mode ≡ ManagedCheckpoint = sym (ap (λ (f : Follower). f.mode) c.self.view_is) ∙ mode-leased c.self.inside.following.mode c.self.inside.lease l c.self.invariant.leased held in
     let k = g.S.Store.calls c.args.store.now in
@@ -677,7 +604,7 @@ returns-then-not-renewed-clause-segments g c x lawful has =
 pub returns-clause-faults : goal.returns-clause-faults
 returns-clause-faults g c =
     let same : g.S.Store.faults c.renew_lease.new.store ≡ g.S.Store.faults c.args.store.now = (let a = c.in_ok-latest.ensures.faults.stays in let b = c.in_ok-taken.ensures.faults.stays in let d = c.in_ok-renewed.ensures.faults.stays in omega (arith, a, b, d)) in
-    let all = all-well (g.S.Store.faults c.args.store.now) (g.S.Store.faults c.renew_lease.new.store) (Some c.stay-2.result) same in
+    let all = all-well (g.S.Store.faults c.args.store.now) (g.S.Store.faults c.renew_lease.new.store) (Some c.install-answer-2.result) same in
     search (rules, all)
 
 pub returns-clause-puts : goal.returns-clause-puts
@@ -687,7 +614,6 @@ returns-clause-puts g c =
     let m = c.args.moment in
     let old = c.args.self.now in
     let t = g.S.Store.objects c.args.store.now in
-    let t1 = g.S.Store.objects c.latest_of.new.store in
     let e = c.in_ok-taken.ensures in
     let t2 = g.S.Store.objects c.taking_new.new.store in
     let kept : t2 ≡ t = e.kept ∙ v.ensures.kept in
@@ -699,12 +625,9 @@ returns-clause-puts g c =
     let undone = to_z-of_z {w = w64} {z = m} (search rules) in
     let then = c.renew_lease.new.self in
     let t3 = g.S.Store.objects c.renew_lease.new.store in
-    let new = c.stay-2.new.self in
-    let answer = c.stay-2.result.answer in
-    let lease_is : new.lease ≡ then.lease = ap (λ (f : Follower). f.lease) c.stay-2.ensures.becomes in
-    let becomes : new ≡ record (installed old.view c.in_ok-taken.taken old) { lease = new.lease } =
-    c.stay-2.ensures.becomes ∙ (ap (λ (f : Follower). installed f.view c.in_ok-taken.taken f) c.in_ok-renewed.ensures.same ∙ ap (λ x. record (installed old.view c.in_ok-taken.taken old) { lease = x }) (sym lease_is)) in
-    let answers : answer ≡ answer_of c.in_ok-taken.taken.replayed (number new) = c.stay-2.ensures.answer in
+    let new = c.install-answer-2.new.self in
+    let answer = c.install-answer-2.result in
+    let lease_is : new.lease ≡ then.lease = ap (λ (f : Follower). f.lease) c.install-answer-2.ensures.becomes in
     let made = subst (λ b. WhereModelled (λ o o'. PutsBy unrefused (renewal old.view v.latest l (to_z w64 (of_z w64 m))) old.lease o (put_tried (Ok b)) then.lease o') t2 t3) is c.in_ok-renewed.ensures.puts in
     let puts0 = subst (λ m. WhereModelled (λ o o'. PutsBy {A = Unit {0}} unrefused (renewal old.view v.latest l m) old.lease o (Ok tt) then.lease o') t2 t3) undone made in
     let puts = subst (λ x. WhereModelled (λ o o'. PutsBy {A = Unit {0}} unrefused (renewal old.view v.latest l m) old.lease o (Ok tt) x o') t2 t3) (sym lease_is) puts0 in
@@ -713,25 +636,17 @@ returns-clause-puts g c =
 
 pub returns-clause-answers : goal.returns-clause-answers
 returns-clause-answers g c =
-    let v = c.in_ok-latest in
     let l = c.args.lease.now in
-    let m = c.args.moment in
     let old = c.args.self.now in
-    let t = g.S.Store.objects c.args.store.now in
-    let t1 = g.S.Store.objects c.latest_of.new.store in
-    let e = c.in_ok-taken.ensures in
-    let t2 = g.S.Store.objects c.taking_new.new.store in
-    let kept : t2 ≡ t = e.kept ∙ v.ensures.kept in
     let held : c.self.inside.lease ≡ Some l = ap (λ (f : Follower). f.lease) c.self.view_is ∙ c.requires.leased in
     let managed : old.mode ≡ ManagedCheckpoint = sym (ap (λ (f : Follower). f.mode) c.self.view_is) ∙ mode-leased c.self.inside.following.mode c.self.inside.lease l c.self.invariant.leased held in
     let then = c.renew_lease.new.self in
-    let t3 = g.S.Store.objects c.renew_lease.new.store in
-    let new = c.stay-2.new.self in
-    let answer = c.stay-2.result.answer in
-    let lease_is : new.lease ≡ then.lease = ap (λ (f : Follower). f.lease) c.stay-2.ensures.becomes in
+    let new = c.install-answer-2.new.self in
+    let answer = c.install-answer-2.result in
+    let lease_is : new.lease ≡ then.lease = ap (λ (f : Follower). f.lease) c.install-answer-2.ensures.becomes in
     let becomes : new ≡ record (installed old.view c.in_ok-taken.taken old) { lease = new.lease } =
-    c.stay-2.ensures.becomes ∙ (ap (λ (f : Follower). installed f.view c.in_ok-taken.taken f) c.in_ok-renewed.ensures.same ∙ ap (λ x. record (installed old.view c.in_ok-taken.taken old) { lease = x }) (sym lease_is)) in
-    let answers : answer ≡ answer_of c.in_ok-taken.taken.replayed (number new) = c.stay-2.ensures.answer in
+    c.install-answer-2.ensures.becomes ∙ (ap (λ (f : Follower). installed f.view c.in_ok-taken.taken f) c.in_ok-renewed.ensures.same ∙ ap (λ x. record (installed old.view c.in_ok-taken.taken old) { lease = x }) (sym lease_is)) in
+    let answers : answer ≡ answer_of c.in_ok-taken.taken.replayed (number new) = c.install-answer-2.ensures.answer in
     has-open old.view c.in_ok-taken.taken new.lease old new answer becomes answers managed c.requires.open_
 
 pub returns-clause-keeps : goal.returns-clause-keeps
@@ -741,7 +656,6 @@ returns-clause-keeps g c =
     let m = c.args.moment in
     let old = c.args.self.now in
     let t = g.S.Store.objects c.args.store.now in
-    let t1 = g.S.Store.objects c.latest_of.new.store in
     let e = c.in_ok-taken.ensures in
     let t2 = g.S.Store.objects c.taking_new.new.store in
     let kept : t2 ≡ t = e.kept ∙ v.ensures.kept in
@@ -757,12 +671,12 @@ returns-clause-keeps g c =
     let undone = to_z-of_z {w = w64} {z = m} (search rules) in
     let then = c.renew_lease.new.self in
     let t3 = g.S.Store.objects c.renew_lease.new.store in
-    let new = c.stay-2.new.self in
-    let answer = c.stay-2.result.answer in
-    let lease_is : new.lease ≡ then.lease = ap (λ (f : Follower). f.lease) c.stay-2.ensures.becomes in
+    let new = c.install-answer-2.new.self in
+    let answer = c.install-answer-2.result in
+    let lease_is : new.lease ≡ then.lease = ap (λ (f : Follower). f.lease) c.install-answer-2.ensures.becomes in
     let becomes : new ≡ record (installed old.view c.in_ok-taken.taken old) { lease = new.lease } =
-    c.stay-2.ensures.becomes ∙ (ap (λ (f : Follower). installed f.view c.in_ok-taken.taken f) c.in_ok-renewed.ensures.same ∙ ap (λ x. record (installed old.view c.in_ok-taken.taken old) { lease = x }) (sym lease_is)) in
-    let answers : answer ≡ answer_of c.in_ok-taken.taken.replayed (number new) = c.stay-2.ensures.answer in
+    c.install-answer-2.ensures.becomes ∙ (ap (λ (f : Follower). installed f.view c.in_ok-taken.taken f) c.in_ok-renewed.ensures.same ∙ ap (λ x. record (installed old.view c.in_ok-taken.taken old) { lease = x }) (sym lease_is)) in
+    let answers : answer ≡ answer_of c.in_ok-taken.taken.replayed (number new) = c.install-answer-2.ensures.answer in
     let made = subst (λ b. WhereModelled (λ o o'. PutsBy unrefused (renewal old.view v.latest l (to_z w64 (of_z w64 m))) old.lease o (put_tried (Ok b)) then.lease o') t2 t3) is c.in_ok-renewed.ensures.puts in
     let puts0 = subst (λ m. WhereModelled (λ o o'. PutsBy {A = Unit {0}} unrefused (renewal old.view v.latest l m) old.lease o (Ok tt) then.lease o') t2 t3) undone made in
     let puts = subst (λ x. WhereModelled (λ o o'. PutsBy {A = Unit {0}} unrefused (renewal old.view v.latest l m) old.lease o (Ok tt) x o') t2 t3) (sym lease_is) puts0 in
@@ -773,44 +687,31 @@ returns-clause-keeps g c =
 pub returns-clause-truncates : goal.returns-clause-truncates
 returns-clause-truncates g c =
     let v = c.in_ok-latest in
-    let l = c.args.lease.now in
-    let m = c.args.moment in
     let old = c.args.self.now in
     let t = g.S.Store.objects c.args.store.now in
-    let t1 = g.S.Store.objects c.latest_of.new.store in
     let e = c.in_ok-taken.ensures in
-    let t2 = g.S.Store.objects c.taking_new.new.store in
-    let kept : t2 ≡ t = e.kept ∙ v.ensures.kept in
     let then = c.renew_lease.new.self in
-    let t3 = g.S.Store.objects c.renew_lease.new.store in
-    let new = c.stay-2.new.self in
-    let answer = c.stay-2.result.answer in
-    let lease_is : new.lease ≡ then.lease = ap (λ (f : Follower). f.lease) c.stay-2.ensures.becomes in
+    let new = c.install-answer-2.new.self in
+    let answer = c.install-answer-2.result in
+    let lease_is : new.lease ≡ then.lease = ap (λ (f : Follower). f.lease) c.install-answer-2.ensures.becomes in
     let becomes : new ≡ record (installed old.view c.in_ok-taken.taken old) { lease = new.lease } =
-    c.stay-2.ensures.becomes ∙ (ap (λ (f : Follower). installed f.view c.in_ok-taken.taken f) c.in_ok-renewed.ensures.same ∙ ap (λ x. record (installed old.view c.in_ok-taken.taken old) { lease = x }) (sym lease_is)) in
-    let answers : answer ≡ answer_of c.in_ok-taken.taken.replayed (number new) = c.stay-2.ensures.answer in
+    c.install-answer-2.ensures.becomes ∙ (ap (λ (f : Follower). installed f.view c.in_ok-taken.taken f) c.in_ok-renewed.ensures.same ∙ ap (λ x. record (installed old.view c.in_ok-taken.taken old) { lease = x }) (sym lease_is)) in
+    let answers : answer ≡ answer_of c.in_ok-taken.taken.replayed (number new) = c.install-answer-2.ensures.answer in
     has-truncated old.view c.in_ok-taken.taken new.lease old new answer becomes answers v.latest t (subst (λ s. IfSome s (λ o. Gives (TakesUnder o v.latest old) v.latest old c.in_ok-taken.taken)) v.ensures.kept e.takes)
 
 pub returns-clause-segments : goal.returns-clause-segments
 returns-clause-segments g c x lawful has =
     let v = c.in_ok-latest in
-    let l = c.args.lease.now in
-    let m = c.args.moment in
     let old = c.args.self.now in
-    let t = g.S.Store.objects c.args.store.now in
-    let t1 = g.S.Store.objects c.latest_of.new.store in
     let e = c.in_ok-taken.ensures in
-    let t2 = g.S.Store.objects c.taking_new.new.store in
-    let kept : t2 ≡ t = e.kept ∙ v.ensures.kept in
     let same : differs old.view v.latest ≡ false = search rules in
     let then = c.renew_lease.new.self in
-    let t3 = g.S.Store.objects c.renew_lease.new.store in
-    let new = c.stay-2.new.self in
-    let answer = c.stay-2.result.answer in
-    let lease_is : new.lease ≡ then.lease = ap (λ (f : Follower). f.lease) c.stay-2.ensures.becomes in
+    let new = c.install-answer-2.new.self in
+    let answer = c.install-answer-2.result in
+    let lease_is : new.lease ≡ then.lease = ap (λ (f : Follower). f.lease) c.install-answer-2.ensures.becomes in
     let becomes : new ≡ record (installed old.view c.in_ok-taken.taken old) { lease = new.lease } =
-    c.stay-2.ensures.becomes ∙ (ap (λ (f : Follower). installed f.view c.in_ok-taken.taken f) c.in_ok-renewed.ensures.same ∙ ap (λ x. record (installed old.view c.in_ok-taken.taken old) { lease = x }) (sym lease_is)) in
-    let answers : answer ≡ answer_of c.in_ok-taken.taken.replayed (number new) = c.stay-2.ensures.answer in
+    c.install-answer-2.ensures.becomes ∙ (ap (λ (f : Follower). installed f.view c.in_ok-taken.taken f) c.in_ok-renewed.ensures.same ∙ ap (λ x. record (installed old.view c.in_ok-taken.taken old) { lease = x }) (sym lease_is)) in
+    let answers : answer ≡ answer_of c.in_ok-taken.taken.replayed (number new) = c.install-answer-2.ensures.answer in
     has-segments old.view c.in_ok-taken.taken new.lease old new answer becomes answers x (e.floor ∙ sym (tabled-same old.view v.latest same)) (e.segments x lawful has)
 
 pub returns-clause-calls : goal.returns-clause-calls
@@ -822,8 +723,6 @@ returns-clause-calls g c =
     let t = g.S.Store.objects c.args.store.now in
     let t1 = g.S.Store.objects c.latest_of.new.store in
     let e = c.in_ok-taken.ensures in
-    let t2 = g.S.Store.objects c.taking_new.new.store in
-    let kept : t2 ≡ t = e.kept ∙ v.ensures.kept in
     let held : c.self.inside.lease ≡ Some l = ap (λ (f : Follower). f.lease) c.self.view_is ∙ c.requires.leased in
     let managed : old.mode ≡ ManagedCheckpoint = sym (ap (λ (f : Follower). f.mode) c.self.view_is) ∙ mode-leased c.self.inside.following.mode c.self.inside.lease l c.self.invariant.leased held in
     let k = g.S.Store.calls c.args.store.now in
@@ -840,8 +739,6 @@ returns-clause-costs g c =
     let t = g.S.Store.objects c.args.store.now in
     let t1 = g.S.Store.objects c.latest_of.new.store in
     let e = c.in_ok-taken.ensures in
-    let t2 = g.S.Store.objects c.taking_new.new.store in
-    let kept : t2 ≡ t = e.kept ∙ v.ensures.kept in
     let held : c.self.inside.lease ≡ Some l = ap (λ (f : Follower). f.lease) c.self.view_is ∙ c.requires.leased in
     let managed : old.mode ≡ ManagedCheckpoint = sym (ap (λ (f : Follower). f.mode) c.self.view_is) ∙ mode-leased c.self.inside.following.mode c.self.inside.lease l c.self.invariant.leased held in
     let due : is_due m l ≡ true = search rules in
@@ -857,7 +754,6 @@ returns-clause-free g c =
     let m = c.args.moment in
     let old = c.args.self.now in
     let t = g.S.Store.objects c.args.store.now in
-    let t1 = g.S.Store.objects c.latest_of.new.store in
     let e = c.in_ok-taken.ensures in
     let t2 = g.S.Store.objects c.taking_new.new.store in
     let kept : t2 ≡ t = e.kept ∙ v.ensures.kept in
@@ -869,3 +765,25 @@ returns-clause-free g c =
     let undone = to_z-of_z {w = w64} {z = m} (search rules) in
     let free = subst (λ m. IfSome t2 (λ o. Stands (planned (renewal old.view v.latest l m)) o → ⊥)) undone (c.in_ok-renewed.ensures.free (ap Ok is)) in
     unstanding-by t v.latest v.ensures.found l m old (renewal old.view v.latest l m) (to-renewal old.view v.latest l m unreplaced due) kept free
+
+pub install-answer-requires : goal.install-answer-requires
+install-answer-requires g c =
+    let v = c.in_ok-latest in
+    let old = c.args.self.now in
+    let same : differs old.view v.latest ≡ false = search rules in
+    c.in_ok-taken.ensures.floor ∙ sym (tabled-same old.view v.latest same)
+
+pub install-answer-2-requires : goal.install-answer-2-requires
+install-answer-2-requires g c =
+    let v = c.in_ok-latest in
+    let old = c.args.self.now in
+    let same : differs old.view v.latest ≡ false = search rules in
+    c.in_ok-taken.ensures.floor ∙ (sym (tabled-same old.view v.latest same) ∙ sym (ap (λ (f : Follower). f.view.manifest.last_l0_seq) c.in_ok-renewed.ensures.same))
+
+pub taking_new-requires : goal.taking_new-requires
+taking_new-requires g c =
+    let l = c.args.lease.now in
+    let old = c.args.self.now in
+    let held : c.self.inside.lease ≡ Some l = ap (λ (f : Follower). f.lease) c.self.view_is ∙ c.requires.leased in
+    let managed : old.mode ≡ ManagedCheckpoint = sym (ap (λ (f : Follower). f.mode) c.self.view_is) ∙ mode-leased c.self.inside.following.mode c.self.inside.lease l c.self.invariant.leased held in
+    record { open_ = c.requires.open_; free = ap is_pinned managed }

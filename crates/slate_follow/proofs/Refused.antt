@@ -1,5 +1,5 @@
 -- What a call of a store says whose refusal is answered as the error of its name.
-use Rattle.std.proofs.Common.{◌≡◌, ℕ, inl, inr, Bool, true, false, List, Result, Ok, Err, ap}
+use Rattle.std.proofs.Common.{◌≡◌, ℕ, inl, inr, Bool, true, false, List, Ok, Err, ap}
 use Rattle.slate_types.specs.declared.store_errors.StoreFault.{StoreFault}
 use Rattle.slate_types.specs.declared.store_errors.StoreFault.TheVariants.{NotFound, Unavailable}
 use Rattle.slate_store.specs.Objects.{Objects}

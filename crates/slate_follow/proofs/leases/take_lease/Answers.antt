@@ -42,10 +42,14 @@ returns-in_err-taken-clause-first g c x o lawful at =
     let e = c.in_err-taken.field-0.0 in
     let a = c.in_err-taken.ensures in
     let i = c.loop-earlier.invariant in
+    let t = g.S.Store.objects c.args.store.now in
+    let plan = to_take c.args.lifetime c.args.moment in
+    let puts : WhereModelled (λ o o'. (made : ℕ) × PutsPlanned {B = VersionedManifest × Lease} Stands MayMismatch plan o (Err e) made o') (g.S.Store.objects c.loop-earlier.store) (g.S.Store.objects c.try_to_take.new.store) = search rules in
+    let met : 0 < c.loop-earlier.earlier → IfSome t (λ o. PlanCause (Stands (checkpoint_changes plan o) o) plan o (TransactionalObjectTimeout 8)) = search rules in
     let is : c.from_residual.result ≡ Err e = search rules in
     rw is
-    (first-try c.args.lifetime c.args.moment x (g.S.Store.objects c.args.store.now) (g.S.Store.objects c.loop-earlier.store) (g.S.Store.objects c.try_to_take.new.store) i.kept e (search rules) (a.mismatch x lawful) c.loop-earlier.earlier
-    (g.S.Store.calls c.args.store.now) (g.S.Store.calls c.loop-earlier.store) (g.S.Store.calls c.try_to_take.new.store) i.most a.first i.met (λ some. i.fits some x lawful) o at)
+    (first-try c.args.lifetime c.args.moment x t (g.S.Store.objects c.loop-earlier.store) (g.S.Store.objects c.try_to_take.new.store) i.kept e puts (a.mismatch x lawful) c.loop-earlier.earlier
+    (g.S.Store.calls c.args.store.now) (g.S.Store.calls c.loop-earlier.store) (g.S.Store.calls c.try_to_take.new.store) i.most a.first met (λ some. i.fits some x lawful) o at)
 
 pub returns-in_err-taken-clause-tries : goal.returns-in_err-taken-clause-tries
 returns-in_err-taken-clause-tries g c =
@@ -53,11 +57,12 @@ returns-in_err-taken-clause-tries g c =
     let t = g.S.Store.objects c.args.store.now in
     let plan = to_take c.args.lifetime c.args.moment in
     let few : c.loop-earlier.earlier < 8 = search rules in
+    let met : 0 < c.loop-earlier.earlier → IfSome t (λ o. PlanCause (Stands (checkpoint_changes plan o) o) plan o (TransactionalObjectTimeout 8)) = search rules in
     let is : c.from_residual.result ≡ Err c.in_err-taken.field-0.0 = search rules in
     rw is
     (λ first. record {
       overtaken = c.loop-earlier.earlier;
       few = few;
       most = (let one = c.in_err-taken.ensures.first first in let most = i.most in omega (arith, one, most));
-      stands = λ some. if_some t (λ o at. (some_at (λ o. PlanCause (Stands (checkpoint_changes plan o) o) plan o (TransactionalObjectTimeout 8)) t o at (i.met some)).1);
+      stands = λ some. if_some t (λ o at. (some_at (λ o. PlanCause (Stands (checkpoint_changes plan o) o) plan o (TransactionalObjectTimeout 8)) t o at (met some)).1);
     })

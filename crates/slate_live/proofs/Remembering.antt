@@ -68,7 +68,8 @@ module _ (live : Live) (store : Known (List Batch)) (w : World) (n : ℕ) (h g :
   of-handle : (snapshot : HandleSnapshot) → IsOfHandle w.objects snapshot → IsOfHandle objects snapshot
   of-handle snapshot (x, is, low, high) =
       let y = handle-to snapshot.handle x is in
-      (y.0, y.1, subst (λ z. (z.line.floor ≤ snapshot.number) × (snapshot.number ≤ accepted z)) (sym y.2) (low, high))
+      let within = subst (λ z. (z.line.floor ≤ snapshot.number) × (snapshot.number ≤ accepted z)) (sym y.2) (low, high) in
+      (y.0, y.1, within.0, within.1)
 
   valid : IsValid w → IsValid (record w { objects = objects })
   valid v = record {

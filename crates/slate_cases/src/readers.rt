@@ -19,6 +19,7 @@ use slate_types::{Batch, Name, PrefixExtractor, Seq};
 #[derive(Clone, Copy)]
 enum Call {
     Open,
+    Lags,
     Managed,
     Poll,
     Begin,
@@ -30,6 +31,7 @@ enum Call {
 
 const CALLS: &[(&[u8], Call)] = &[
     (b"open", Call::Open),
+    (b"lags", Call::Lags),
     (b"managed", Call::Managed),
     (b"poll", Call::Poll),
     (b"begin", Call::Begin),
@@ -65,6 +67,13 @@ impl Database {
             Some(Call::Open) => {
                 let options = DbReaderOptions {
                     max_memtable_bytes: line.number(),
+                    ..DbReaderOptions::default()
+                };
+                self.follow(DbReaderMode::FollowLatest, &options, line);
+            }
+            Some(Call::Lags) => {
+                let options = DbReaderOptions {
+                    max_lag: line.number(),
                     ..DbReaderOptions::default()
                 };
                 self.follow(DbReaderMode::FollowLatest, &options, line);

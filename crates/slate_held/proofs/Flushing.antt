@@ -1,22 +1,21 @@
 -- A flush keeps a handle in step with its store, wherever it is broken off.
-use Rattle.std.proofs.Common.{◌≡◌, ◌≢◌, ℕ, zero, suc, ◌+◌, ◌-◌, ◌<◌, ◌≤◌, ◌⊎◌, inl, inr, List, [], ◌∷◌, ◌++◌, All, Bool, true, false, cond, length, map, take, get_or, leb, ltb, Option, Some, None, Result, Ok, Err, refl, sym, subst, ap, ◌∙◌, arith}
+use Rattle.std.proofs.Common.{◌≡◌, ◌≢◌, ℕ, zero, suc, ◌+◌, ◌<◌, ◌≤◌, ◌⊎◌, inl, inr, List, [], ◌∷◌, ◌++◌, All, Bool, true, false, cond, length, map, get_or, leb, Option, Some, None, Result, Ok, Err, refl, sym, subst, ap, ◌∙◌, arith}
 use Rattle.std.specs.List.{AllByRecursion, Contains}
-use Rattle.std.specs.Option.{IfSome}
 use Rattle.std.specs.Ordering.{nat_cmp}
 use Rattle.std.specs.BTreeMap.{insert_entry, is_at}
 use Rattle.std.specs.Map.{lookup}
-use Rattle.std.proofs.lemmas.Bool.{cases_lt, false_from_ne_true, leb-true, ltb-false, ltb-true}
+use Rattle.std.proofs.lemmas.Bool.{cases_lt, false_from_ne_true, leb-true, ltb-false}
 use Rattle.std.proofs.lemmas.Cmp.{nat_cmp_total}
 use Rattle.std.proofs.lemmas.List.Elements.{All-contains_itself, All-nil, All-weaker, Contains-append_right}
 use Rattle.slate_types.specs.declared.batches.Batch.{Batch}
 use Rattle.slate_types.specs.declared.options.FlushType.{FlushType}
 use Rattle.slate_types.specs.declared.options.FlushType.TheVariants.{Wal, MemTable}
-use Rattle.slate_types.specs.Line.{IsLine, Line, batches_above, end}
+use Rattle.slate_types.specs.Line.{IsLine}
 use Rattle.slate_types.proofs.Lines.{above-all}
 use Rattle.slate_store.specs.declared.objects.Manifest.{Manifest}
 use Rattle.slate_store.specs.declared.objects.VersionedManifest.{VersionedManifest}
 use Rattle.slate_store.specs.Logs.{IsLogged}
-use Rattle.slate_store.specs.Objects.{Change, IsGreatest, Objects, PutLog, PutManifest, PutTable, changed, entry_at, last_log, latest_manifest, log_at, table_at, table_cmp}
+use Rattle.slate_store.specs.Objects.{Change, IsGreatest, Objects, PutLog, PutManifest, PutTable, changed, entry_at, last_log, latest_manifest, log_at, table_cmp}
 use Rattle.slate_store.proofs.Entries.{absent, apart, lookup-insert_other, lookup-insert_same, table_total}
 use Rattle.slate_store.proofs.Latest.{next-greatest, next-latest}
 use Rattle.slate_store.proofs.LastLog.{at_least}
@@ -26,14 +25,13 @@ use Rattle.slate_errors.specs.declared.errors.SlateError.TheVariants as errors
 use Rattle.slate_errors.specs.declared.endings.TaskName.{TaskName}
 use Rattle.slate_seqtrack.specs.Tracker.{Tracker}
 use Rattle.slate_model.specs.Changes.{PartMade, after_part}
-use Rattle.slate_model.specs.Flush.{DurableAfter, FlushAnswer, IsFlushed, StoresBatches, flush_changes, flush_changes_by, flush_changes_under, flush_result, flush_view, grows, has_log_for, log_changes, log_after, next_flushed, table_changes}
-use Rattle.slate_model.specs.Handle.{CloseResult, Handle, accepted, has_untabled, kept_handle, line_above, next_table, to_log, unstored, untabled}
-use Rattle.slate_model.specs.Knowledge.{Knowledge}
+use Rattle.slate_model.specs.Flush.{DurableAfter, FlushAnswer, IsFlushed, StoresBatches, flush_changes, flush_changes_by, flush_changes_under, flush_view, grows, has_log_for, log_changes, next_flushed, table_changes}
+use Rattle.slate_model.specs.Handle.{CloseResult, Handle, accepted, has_untabled, kept_handle, next_table, to_log, unstored, untabled}
 use Rattle.slate_model.specs.Stores.{Stands, by_objects}
 use Rattle.slate_model.proofs.Flushed.{part_le}
 use Rattle.slate_held.specs.Keeping.{IsInStep, IsStored, IsTabled}
 use Rattle.slate_held.proofs.Lined.{above-has, empty-line, same-line}
-use Rattle.slate_held.proofs.Stepping.{NamesSame, logged-same}
+use Rattle.slate_held.proofs.Stepping.{logged-same}
 
 some-inj : {X : Type 0} (x y : X) → Some x ≡ Some y → x ≡ y
 some-inj x y h = cc

@@ -1,8 +1,7 @@
 -- What a sweep, a call on checkpoints and a compaction leave of what the latest manifest names.
-use Rattle.std.proofs.Common.{◌≡◌, ◌≢◌, ℕ, ℤ, zero, suc, ◌+◌, ◌<◌, ◌≤◌, ◌==◌, ◌⊎◌, inl, inr, List, [], ◌∷◌, ◌++◌, All, Bool, true, false, cond, not, length, map, Option, Some, None, refl, sym, subst, ap, ◌∙◌, arith, ltb}
+use Rattle.std.proofs.Common.{◌≡◌, ℕ, ℤ, zero, suc, ◌<◌, ◌≤◌, ◌==◌, inl, inr, List, [], ◌∷◌, ◌++◌, All, Bool, true, false, cond, not, length, map, Option, Some, None, refl, sym, subst, ap, ◌∙◌, arith, ltb}
 use Rattle.std.specs.BTreeMap.{is_at}
-use Rattle.std.specs.List.{AllByRecursion, Contains, filter, flat_map, list_any}
-use Rattle.std.specs.Map.{lookup}
+use Rattle.std.specs.List.{AllByRecursion, filter, flat_map, list_any}
 use Rattle.std.specs.Option.{option_map}
 use Rattle.std.specs.Ordering.{eq_by_cmp, nat_cmp}
 use Rattle.std.proofs.lemmas.Bool.{eqb-false, ltb-false, or_parts}
@@ -11,14 +10,13 @@ use Rattle.std.proofs.lemmas.List.Elements.{All-append, All-contains, All-head, 
 use Rattle.slate_types.specs.declared.batches.Batch.{Batch}
 use Rattle.slate_types.specs.Line.{IsLine}
 use Rattle.slate_store.specs.declared.objects.Manifest.{Manifest}
-use Rattle.slate_store.specs.declared.objects.TableId.{TableId}
 use Rattle.slate_store.specs.declared.objects.VersionedManifest.{VersionedManifest}
 use Rattle.slate_store.specs.Changes.{after_part}
 use Rattle.slate_store.specs.Compaction.{compact_changes, compact_changes_by, tables_at, with_table}
 use Rattle.slate_store.specs.Logs.{IsLogged}
 use Rattle.slate_store.specs.Checkpoints.{is_expired, with_checkpoints}
 use Rattle.slate_store.specs.Objects.{Change, IsGreatest, Objects, PutLog, PutManifest, PutTable, RemoveLog, RemoveManifest, RemoveTable, changed, changed_all, entry_at, last, latest_manifest, table_cmp, versioned}
-use Rattle.slate_store.specs.Sweeps.{expiries, has_expired, keeps_log, keeps_manifest, keeps_table, protecting, removals, sweep_changes, sweep_changes_by, without_expired}
+use Rattle.slate_store.specs.Sweeps.{has_expired, keeps_log, keeps_manifest, keeps_table, protecting, removals, sweep_changes, sweep_changes_by}
 use Rattle.slate_store.proofs.Entries.{apart, lookup-without, table_total}
 use Rattle.slate_store.proofs.Kept.{not-any}
 use Rattle.slate_store.proofs.Latest.{next-greatest, next-latest, some-versioned}

@@ -1,18 +1,15 @@
 -- A handle stays in step with its store over changes that move neither its line nor what it stored.
-use Rattle.std.proofs.Common.{◌≡◌, ◌≢◌, ℕ, zero, suc, ◌+◌, ◌<◌, ◌≤◌, ◌⊎◌, inl, inr, List, [], ◌∷◌, All, Option, Some, None, length, map, Ok, refl, sym, subst, ap, ◌∙◌, arith}
-use Rattle.std.specs.List.{AllByRecursion, Contains}
+use Rattle.std.proofs.Common.{◌≡◌, ℕ, ◌<◌, ◌≤◌, inl, inr, List, All, Option, Some, None, refl, sym, subst, ap, ◌∙◌, arith}
+use Rattle.std.specs.List.{Contains}
 use Rattle.std.specs.Option.{IfSome}
-use Rattle.std.specs.Ordering.{nat_cmp}
 use Rattle.std.proofs.lemmas.List.Elements.{All-weaker}
 use Rattle.slate_types.specs.declared.batches.Batch.{Batch}
 use Rattle.slate_types.specs.Line.{IsLine, end}
-use Rattle.slate_store.specs.declared.objects.Checkpoint.{Checkpoint}
 use Rattle.slate_store.specs.declared.objects.Manifest.{Manifest}
 use Rattle.slate_store.specs.declared.objects.TableId.{TableId}
 use Rattle.slate_store.specs.declared.objects.VersionedManifest.{VersionedManifest}
-use Rattle.slate_store.specs.Checkpoints.{with_checkpoints}
 use Rattle.slate_store.specs.Logs.{IsLogged}
-use Rattle.slate_store.specs.Objects.{IsGreatest, Objects, PutManifest, changed, entry_at, latest_manifest, log_at, table_at}
+use Rattle.slate_store.specs.Objects.{IsGreatest, Objects, PutManifest, changed, latest_manifest, log_at, table_at}
 use Rattle.slate_store.proofs.Latest.{next-greatest, next-latest}
 use Rattle.slate_model.specs.Handle.{CloseResult, Handle}
 use Rattle.slate_held.specs.Keeping.{IsInStep, IsKept, IsStored, IsTabled}

@@ -1,6 +1,6 @@
 -- What an opening and a poll of a follower leave of it: over sound objects it sees what it is owed, or what it saw and the tables, where
 -- it may lag.
-use Rattle.std.proofs.Common.{◌≡◌, ℕ, ◌+◌, ◌-◌, ◌<◌, ◌≤◌, max, inl, inr, ◌⊎◌, Bool, true, false, List, Option, Some, refl, sym, subst, ap, ◌∙◌, arith}
+use Rattle.std.proofs.Common.{◌≡◌, ℕ, ◌+◌, ◌-◌, ◌≤◌, max, inl, inr, ◌⊎◌, Bool, true, false, List, Option, Some, refl, sym, subst, ap, ◌∙◌, arith}
 use Rattle.std.proofs.lemmas.List.{length-take}
 use Rattle.slate_types.specs.Line.{IsLine, IsPrefix, Line, end}
 use Rattle.slate_store.specs.Content.{IsSound, content}

@@ -45,6 +45,7 @@ pub mod Prefixes
 pub mod Publishing
 pub mod Reading
 pub mod Repeating
+pub mod Remembering
 pub mod Renewed
 pub mod Representing
 pub mod Rising

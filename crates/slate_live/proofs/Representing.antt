@@ -1,7 +1,7 @@
 -- A command over an honest store leads to a world that the live state and the store represent.
 use Rattle.slate_model.specs.Segments.{extractor_name}
-use Rattle.std.proofs.Common.{◌≡◌, ◌≢◌, ℕ, ◌≤◌, Bool, true, false, length, List, [], ◌∷◌, ◌++◌, set, map, option_map, Option, Some, None, Result, Ok, Err, refl, sym, subst, ap, ◌∙◌, arith, zero, suc, inl, inr, ◌<◌}
-use Rattle.std.proofs.lemmas.List.{append-nil, length-map, map-append}
+use Rattle.std.proofs.Common.{◌≡◌, ◌≢◌, ℕ, ◌≤◌, Bool, true, false, length, List, [], ◌∷◌, ◌++◌, set, map, option_map, Option, Some, None, Result, Ok, Err, refl, sym, subst, ap, ◌∙◌, arith, inl, inr, ◌<◌}
+use Rattle.std.proofs.lemmas.List.{append-nil, length-map, map-append, map-set}
 use Rattle.std.proofs.lemmas.List.Elements.{All-nil}
 use Rattle.std.specs.List.{slice_get}
 use Rattle.slate_types.specs.declared.batches.Batch.{Batch}
@@ -60,12 +60,6 @@ use Rattle.slate_live.proofs.Begun.{are-left, left_polls}
 use Rattle.slate_live.proofs.Changing.{handles-set-follower}
 use Rattle.slate_live.proofs.Places.{get-map}
 use Rattle.slate_live.proofs.Snapshots.{snapshots-kept}
-
--- what is kept of objects of which one was set
-map-set : {X Y : Type 0} (f : X → Y) (xs : List X) (n : ℕ) (x : X) → map f (set xs n x) ≡ set (map f xs) n (f x)
-map-set f [] n x = refl
-map-set f (y ∷ xs) zero x = refl
-map-set f (y ∷ xs) (suc n) x = ap (λ ys. f y ∷ ys) (map-set f xs n x)
 
 -- nothing is stored by what names no handle
 no-growth : (call : Call) (made : ℕ) (stored : Line) → grown_by call made stored None ≡ stored

@@ -1,10 +1,12 @@
 -- What holds of the handles and readers that a program holds over an honest store.
-use Rattle.std.specs.Prelude.{◌≡◌, ℕ, List, [], slice_get, Option, Some}
+use Rattle.std.specs.Prelude.{◌≡◌, ℕ, List, [], flat_map, reverse, set, slice_get, Option, Some}
 use Rattle.slate_types.specs.declared.batches.Batch.{Batch}
 use Rattle.slate_store.specs.Content.{IsSound}
 use Rattle.slate_store.specs.Objects.{Objects}
+use Rattle.slate_model.specs.Handle.{Handle, kept_handle}
 use Rattle.slate_model.specs.Known.{Known}
-use Rattle.slate_model.specs.Object.{Object, batches_of, kept}
+use Rattle.slate_model.specs.Object.{Object, Handle as AHandle, batches_of, kept}
+use Rattle.slate_model.specs.Recency.{AreSources}
 use Rattle.slate_model.specs.Segments.{Extractor}
 use Rattle.slate_model.specs.Stores.{by_objects, kept_rows}
 use Rattle.slate_script.specs.declared.commands.Command.{Command}
@@ -43,3 +45,22 @@ abbrev pub ReadTheirLines : Type 0
 ReadTheirLines =
     (live : Live) (store : Known (List Batch)) (w : World) (n : ℕ) (object : Object) (rows : List Batch) →
     RepresentsObjects live store w → slice_get w.objects n ≡ Some object → kept_rows store.objects (kept object) rows → rows ≡ batches_of object
+
+-- the sources that one of their handles lists by recency, the oldest first, are the batches of its line
+abbrev pub ListTheirLines : Type 0
+ListTheirLines =
+    (live : Live) (store : Known (List Batch)) (w : World) (n : ℕ) (handle : Handle) (sources : List (List Batch)) →
+    RepresentsObjects live store w → slice_get w.objects n ≡ Some (AHandle handle) → AreSources store.objects (kept_handle handle) sources →
+    flat_map (λ source. source) (reverse sources) ≡ handle.line.batches
+
+-- one handle in place of another among objects
+abbrev pub replaced : List Object → ℕ → Handle → List Object
+replaced objects n handle = set objects n (AHandle handle)
+
+-- Where one of their handles tracks other writes for transactions than before, and is as it was but for that, they represent the
+-- world in which it does. So the beginning of a transaction leaves the world but for that, and its commit does what a write does.
+abbrev pub TransactionsTrack : Type 0
+TransactionsTrack =
+    (live : Live) (store : Known (List Batch)) (w : World) (n : ℕ) (handle other : Handle) →
+    RepresentsObjects live store w → slice_get w.objects n ≡ Some (AHandle handle) → other ≡ record handle { writes = other.writes } →
+    RepresentsObjects (record live { objects = replaced live.objects n (kept_handle other) }) store (record w { objects = replaced w.objects n other })

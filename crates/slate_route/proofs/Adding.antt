@@ -240,7 +240,7 @@ module _ (merge : Option Merge) (live : Live) (store store' : Known (List Batch)
 -- over any store the reader is open, and the store hasn't failed
 pub opening-ready : {moment : ℤ} {lifetime interval : ℕ} {before after : Known (List Batch)} (reader : Follower) → OpensReader moment lifetime interval before (Ok reader) after → (is_open reader ≡ true) × (after.faults ≡ before.faults)
 opening-ready {moment} {lifetime} {interval} {before} {after} reader o = by o.opened o.result_is o.faults (o.opens).0 (o.opens).1 where
-  by : (opened : Result (Follower × PollAnswer) SlateError) → Ok reader ≡ reader_of opened → FaultsRise before.faults after.faults opened → (made : ℕ) → OpensManaged (by_objects before.objects) None made lifetime interval false moment before opened after → (is_open reader ≡ true) × (after.faults ≡ before.faults)
+  by : (opened : Result (Follower × PollAnswer) SlateError) → Ok reader ≡ reader_of opened → FaultsRise before.faults after.faults opened → (made : ℕ) → OpensManaged (by_objects before.objects) None made lifetime interval false 0 moment before opened after → (is_open reader ≡ true) × (after.faults ≡ before.faults)
   by (Ok b) is faults made opens =
       let it : b.0 ≡ reader = cc in
       (ap (λ (f : Follower). is_none f.result) (sym it) ∙ ap is_none (opened-open b opens), faults.stays)

@@ -2,7 +2,8 @@ use Rattle.std.proofs.Common.{Some, refl}
 use Rattle.slate_live.specs.Run.{none_live}
 use Rattle.slate_live.proofs.Chains.{stands_start}
 use Rattle.slate_live.proofs.Failing.{may-fail}
-use Rattle.slate_live.proofs.Lines.{read-lines}
+use Rattle.slate_live.proofs.Lines.{list-lines, read-lines}
+use Rattle.slate_live.proofs.Remembering.{remembers}
 use Rattle.slate_live.proofs.Representing.{leads}
 use Rattle.slate_live.proofs.laws.calls_are_steps.Goals as goal
 
@@ -12,4 +13,6 @@ returns c = record {
   steps = leads;
   fails = may-fail;
   rows = read-lines;
+  recent = list-lines;
+  tracks = remembers;
 }

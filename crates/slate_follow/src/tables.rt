@@ -58,7 +58,8 @@ pub(crate) fn tables_above(
 {
     let mut left = Vec::new(alloc);
     for table in tables {
-        push_table(&mut left, table.above(alloc, number)?)?;
+        let rest = table.above(alloc, number)?;
+        push_table(&mut left, rest)?;
     }
     Ok(left)
 }
@@ -104,7 +105,7 @@ fn first_joined(tables: &[Table], limit: u64, size: u64) -> usize
 
 /// One table of tables and of one after them. It copies no key and no value.
 fn join(alloc: Global, tables: &[Table], table: &IndexedTable) -> Result<IndexedTable, NoMemory>
-    requires { AreRising (joined tables.now ++ table.now) }
+    requires { (floor : ℕ) × AreNumberedFrom floor (joined tables.now ++ table.now) }
     ensures { IfOk result (λ whole. whole ≡ joined tables.now ++ table.now) }
 {
     let mut whole = IndexedTable::new(alloc);

@@ -1,9 +1,8 @@
 -- How often a reader that keeps a checkpoint calls the store.
-use Rattle.std.proofs.Common.{◌≡◌, ℕ, zero, suc, inl, inr, ◌+◌, ◌-◌, ◌*◌, ◌<◌, ◌≤◌, max, map, length, length-append, is_none, not, Option, Some, None, Bool, true, false, cond, Ok, refl, sym, ap, subst, ◌∙◌, arith}
-use Rattle.std.proofs.lemmas.Bool.{le-leb}
+use Rattle.std.proofs.Common.{◌≡◌, ℕ, zero, suc, ◌+◌, ◌-◌, ◌*◌, ◌<◌, ◌≤◌, max, map, Option, Some, None, Bool, true, false, cond, Ok, refl, sym, ap, subst, ◌∙◌, arith}
 use Rattle.std.proofs.Math.Nat.{add-mul, mul-le-mul_right}
 use Rattle.std.specs.Option.{IfSome}
-use Rattle.std.specs.Prelude.{ℤ, List, nat_le, ◌&&◌}
+use Rattle.std.specs.Prelude.{ℤ, ◌||◌}
 use Rattle.slate_types.specs.Modelled.{WhereModelled}
 use Rattle.slate_types.specs.declared.batches.Batch.{Batch}
 use Rattle.slate_store.proofs.LastLog.{at_least}
@@ -13,24 +12,21 @@ use Rattle.slate_store.specs.Refusals.{PlanIs, checkpoint_changes}
 use Rattle.slate_store.specs.declared.objects.VersionedManifest.{VersionedManifest}
 use Rattle.slate_store.specs.declared.reader_modes.DbReaderMode.{DbReaderMode}
 use Rattle.slate_store.specs.declared.reader_modes.DbReaderMode.TheVariants.{Checkpoint, FollowLatest, ManagedCheckpoint}
-use Rattle.slate_replay.specs.declared.replays.Replayed.{Replayed}
-use Rattle.slate_replay.specs.declared.replays.Replayed.TheVariants.{Truncated, Whole}
 use Rattle.slate_errors.specs.declared.errors.SlateError.{SlateError}
 use Rattle.slate_errors.specs.declared.errors.SlateError.TheVariants.{TransactionalObjectTimeout}
 use Rattle.slate_model.proofs.Reduced.{some-same}
 use Rattle.slate_model.specs.Followed.{followed_logs, last_read, logs_under, read_logs}
-use Rattle.slate_model.specs.Follower.{Follower, is_pinned, number}
+use Rattle.slate_model.specs.Follower.{Follower, is_pinned}
 use Rattle.slate_model.specs.Lease.{differs, is_due, leased, to_take}
 use Rattle.slate_model.specs.Managed.{PlanCause, PutsPlanned}
 use Rattle.slate_model.specs.Open.{mark_of, replayed_logs}
 use Rattle.slate_model.specs.Stores.{Stands}
 use Rattle.slate_model.specs.declared.leases.Lease.{Lease}
-use Rattle.slate_follow.specs.Keeping.{CallsRound, FindsLatest, IsNews, PutsManifest, calls_to_keep}
-use Rattle.slate_follow.specs.Lagging.{IsLastTaken, readings}
+use Rattle.slate_follow.specs.Keeping.{CallsRound, FindsLatest, PutsManifest, calls_to_keep}
+use Rattle.slate_follow.specs.Lagging.{readings}
 use Rattle.slate_follow.specs.Rebuilding.{CallsContinuing, CallsRebuilding, goes_on, last_above, new_logs}
 use Rattle.slate_follow.proofs.Continued.{greatest-greater}
 use Rattle.slate_follow.proofs.Lagging.{readings-more}
-use Rattle.slate_follow.proofs.Informed.{tabled-same}
 use Rattle.slate_follow.proofs.Leased.{HasCheckpoints, reads, written-form}
 use Rattle.slate_follow.proofs.Rebuilt.{if_some, some_at}
 use Rattle.slate_follow.proofs.Taken.{taken-after, taken-from}

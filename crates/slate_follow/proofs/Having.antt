@@ -1,7 +1,7 @@
 -- What a poll found, and the reader that has it.
-use Rattle.std.proofs.Common.{◌≡◌, ◌∙◌, ◌+◌, ◌<◌, ◌≤◌, ◌^◌, ◌++◌, ℕ, Bool, List, [], max, inl, inr, Option, None, Some, Result, Ok, Err, true, false, length, length-append, arith, refl, sym, ap, subst}
+use Rattle.std.proofs.Common.{◌≡◌, ◌∙◌, ◌+◌, ◌≤◌, ◌++◌, ℕ, Bool, List, [], inl, inr, Option, None, Some, Result, Ok, Err, true, false, length, length-append, arith, refl, sym, ap, subst}
 use Rattle.std.specs.Option.{IfSome}
-use Rattle.std.specs.Prelude.{ℤ, ◌⊎◌, ◌&&◌, nat_le, not}
+use Rattle.std.specs.Prelude.{ℤ, ◌&&◌, nat_le, not}
 use Rattle.std.specs.Result.{IfErr, IfOk}
 use Rattle.std.proofs.lemmas.Bool.{le-leb}
 use Rattle.slate_types.specs.Line.{AreNumberedFrom, Line, batches_above}
@@ -25,7 +25,7 @@ use Rattle.slate_model.specs.declared.answers.PollAnswer.TheVariants as answers
 use Rattle.slate_model.specs.declared.leases.Lease.{Lease}
 use Rattle.slate_follow.specs.Keeping.{IsNews, Replaces, informed}
 use Rattle.slate_follow.specs.Lagging.{IsLastRead}
-use Rattle.slate_follow.specs.Rebuilding.{Builds, GoesOn, TakesUnder, Truncates, answer_of, followed, goes_on, reached, unleased}
+use Rattle.slate_follow.specs.Rebuilding.{TakesUnder, Truncates, answer_of, goes_on, reached, unleased}
 use Rattle.slate_follow.specs.Takings.{Gives, HasOwn, Taking, installed}
 use Rattle.slate_follow.proofs.Above.{above-append, above-twice, numbered-above}
 use Rattle.slate_follow.proofs.Continued.{took-truncates}

@@ -12,12 +12,13 @@ use Rattle.slate_store.specs.declared.reader_modes.DbReaderMode.TheVariants.{Man
 use Rattle.slate_replay.specs.declared.replays.Replayed.{Replayed}
 use Rattle.slate_errors.specs.declared.errors.SlateError.{SlateError}
 use Rattle.slate_model.specs.Changes.{after_part}
-use Rattle.slate_model.specs.Follow.{SeesPolled}
+use Rattle.slate_model.specs.Follow.{HasAllLogs, SeesPolled}
 use Rattle.slate_model.specs.Follower.{Follower, number, unsegmented}
 use Rattle.slate_model.specs.Lease.{differs, is_due, leased, replaces, to_keep, to_renew}
 use Rattle.slate_model.specs.Managed.{Keeps, KeepsOrNot, PutsPlanned, SeesLatest, follower_under}
 use Rattle.slate_model.specs.Stores.{Stands, by_objects, kept_seen}
 use Rattle.slate_model.specs.declared.answers.PollAnswer.{PollAnswer}
+use Rattle.slate_model.specs.declared.answers.PollAnswer.TheVariants.{Truncated, Whole}
 use Rattle.slate_model.specs.declared.leases.Lease.{Lease}
 use Rattle.slate_follow.specs.Keeping.{ComesFrom, IsNews, MayLack, PutsBy, TakesLatest, informed}
 use Rattle.slate_follow.specs.Rebuilding.{TakesUnder, answer_of}

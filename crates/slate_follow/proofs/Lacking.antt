@@ -1,5 +1,5 @@
 -- Keys without a segment under a manifest with other checkpoints, which is put, and of what a reader goes on with.
-use Rattle.std.proofs.Common.{◌≡◌, ◌++◌, ℕ, max, List, [], Bool, true, false, Option, Some, inl, inr, Ok, Err, refl, sym, ap, subst, ◌∙◌, arith}
+use Rattle.std.proofs.Common.{◌≡◌, ◌++◌, ℕ, max, List, [], Bool, true, false, Option, Some, inl, inr, Ok, Err, refl, sym, ap, subst, ◌∙◌}
 use Rattle.std.specs.Option.{IfSome}
 use Rattle.std.specs.Prelude.{ℤ, ◌⊎◌, IsSome}
 use Rattle.slate_types.specs.declared.batches.Batch.{Batch}

@@ -1,12 +1,10 @@
 -- A try of a poll of a reader that keeps a checkpoint, by its steps, over a store that may be modelled.
-use Rattle.std.proofs.Common.{◌≡◌, ℕ, max, inl, inr, List, [], ◌++◌, Option, Some, None, Bool, true, false, cond, Result, Ok, Err, refl, sym, ap, subst, ◌∙◌, arith}
+use Rattle.std.proofs.Common.{◌≡◌, ℕ, inl, inr, List, [], Option, Some, None, Bool, true, false, cond, Result, Ok, Err, refl, sym, ap, subst, ◌∙◌, arith}
 use Rattle.std.proofs.Math.Logic.{⊎_map}
 use Rattle.std.specs.Option.{IfSome}
-use Rattle.std.specs.Prelude.{ℤ, ◌⊎◌, nat_lt, unwrap_or}
-use Rattle.std.specs.Result.{IfErr, IfOk}
+use Rattle.std.specs.Prelude.{ℤ, ◌⊎◌, nat_lt}
+use Rattle.std.specs.Result.{IfOk}
 use Rattle.slate_types.specs.Modelled.{WhereModelled}
-use Rattle.slate_types.specs.Line.{AreNumberedFrom, batches_above}
-use Rattle.slate_replay.specs.Replay.{Replays, line_of}
 use Rattle.slate_types.specs.declared.batches.Batch.{Batch}
 use Rattle.slate_store.specs.Checkpoints.{Plan, found, lease_end, to_end}
 use Rattle.slate_store.specs.Objects.{Objects, PutManifest, changed, latest_manifest}
@@ -15,16 +13,12 @@ use Rattle.slate_store.specs.declared.objects.Checkpoint.{Checkpoint as AnyCheck
 use Rattle.slate_store.specs.declared.objects.VersionedManifest.{VersionedManifest}
 use Rattle.slate_store.specs.declared.reader_modes.DbReaderMode.TheVariants.{ManagedCheckpoint}
 use Rattle.slate_store.specs.declared.refusals.StoreRefusal.TheVariants as refusals
-use Rattle.slate_replay.specs.declared.replays.Replayed.{Replayed}
 use Rattle.slate_replay.specs.declared.replays.Replayed.TheVariants as replays
 use Rattle.slate_errors.specs.declared.errors.SlateError.{SlateError}
 use Rattle.slate_errors.specs.declared.errors.SlateError.TheVariants.{TransactionalObjectTimeout}
-use Rattle.slate_model.specs.Follow.{AnswersAt}
-use Rattle.slate_model.proofs.Reopened.{segments-none}
-use Rattle.slate_model.specs.Follower.{Follower, HasSegments, follower_tasks, number, rebuilt, unsegmented}
-use Rattle.slate_model.specs.Segments.{Extractor}
+use Rattle.slate_model.specs.Follower.{Follower, follower_tasks, number}
 use Rattle.slate_model.specs.Lease.{differs, is_due, lease_of, leased, replaces, to_keep}
-use Rattle.slate_model.specs.Managed.{IsOpenAt, Keeps, PlanCause, follower_under, unrefused}
+use Rattle.slate_model.specs.Managed.{Keeps, PlanCause, follower_under, unrefused}
 use Rattle.slate_model.specs.Stores.{Stands, by_objects}
 use Rattle.slate_model.specs.declared.answers.PollAnswer.{PollAnswer}
 use Rattle.slate_model.specs.declared.leases.Lease.{Lease}

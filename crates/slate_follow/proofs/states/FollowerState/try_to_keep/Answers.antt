@@ -1,4 +1,4 @@
-use Rattle.std.proofs.Common.{◌≡◌, ◌∙◌, false, true, is_none, None, Option, Some, Ok, Err, IfErr, IfOk, IfSome, refl, rules, sym, ap, subst, arith, of_z, to_z}
+use Rattle.std.proofs.Common.{◌≡◌, ◌∙◌, false, true, is_none, None, Option, Some, Ok, Err, IfOk, IfSome, refl, rules, sym, ap, subst, arith, of_z, to_z}
 use Rattle.std.proofs.Math.Facts.{to_z-of_z}
 use Rattle.std.proofs.lemmas.Result.{err_from_is_err_and}
 use Rattle.std.specs.Int.{w64}
@@ -9,7 +9,7 @@ use Rattle.slate_errors.specs.declared.errors.SlateError.{SlateError}
 use Rattle.slate_errors.specs.declared.errors.SlateError.TheVariants.{InvalidDBState, TransactionalObjectTimeout}
 use Rattle.slate_model.specs.Follower.{Follower, HasSegments, follower_tasks, is_pinned, number}
 use Rattle.slate_model.specs.Lease.{differs, is_due, replaces, to_keep}
-use Rattle.slate_model.specs.Managed.{IsOpenAt, unrefused}
+use Rattle.slate_model.specs.Managed.{unrefused}
 use Rattle.slate_model.specs.Stores.{Stands}
 use Rattle.slate_store.specs.Refusals.{planned}
 use Rattle.slate_follow.specs.declared.keeps.Kept.{Kept}

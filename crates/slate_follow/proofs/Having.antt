@@ -65,6 +65,19 @@ answers-at : (n : ℕ) (replayed : Replayed) → AnswersAt n (answer_of replayed
 answers-at n replays.Whole = inl refl
 answers-at n (replays.Truncated id) = inr refl
 
+-- where log files break off, by the mark alone
+marked : (o : Objects) (f new : Follower) (a : PollAnswer) → f.mark ≡ new.mark → Truncates o f a → Truncates o new a
+marked o f new (answers.Whole at) same all = tt
+marked o f new (answers.Truncated at) same all = record {
+  id = all.id;
+  from = all.from;
+  last = all.last;
+  number = all.number;
+  end = all.end;
+  truncated = all.truncated;
+  before = sym same ∙ all.before;
+}
+
 -- it is open
 module _ (view : VersionedManifest) (taking : Taking) (lease : Option Lease) (old new : Follower) (answer : PollAnswer) (becomes : new ≡ record (installed view taking old) { lease = lease }) (answers : answer ≡ answer_of taking.replayed (number new)) where
   pub has-open : old.mode ≡ ManagedCheckpoint → old.result ≡ None → IsOpenAt old.skips old.lag new answer
@@ -80,18 +93,6 @@ module _ (view : VersionedManifest) (taking : Taking) (lease : Option Lease) (ol
   has-segments x floor own = has-own x view old new taking (ap (λ (f : Follower). f.view) becomes) (ap (λ (f : Follower). f.line) becomes) (ap (λ (f : Follower). f.segments) becomes) floor own
 
   -- where it was taken under a manifest, log files break off as the answer says
-  marked : (o : Objects) (f : Follower) (a : PollAnswer) → f.mark ≡ new.mark → Truncates o f a → Truncates o new a
-  marked o f (answers.Whole at) same all = tt
-  marked o f (answers.Truncated at) same all = record {
-    id = all.id;
-    from = all.from;
-    last = all.last;
-    number = all.number;
-    end = all.end;
-    truncated = all.truncated;
-    before = sym same ∙ all.before;
-  }
-
   pub has-truncated : (latest : VersionedManifest) (t : Option Objects) → IfSome t (λ o. Gives (TakesUnder o latest old) latest old taking) → IfSome t (λ o. Truncates o new answer)
   has-truncated latest t gives = if_some t (λ o at.
       let takes = some_at (λ o. Gives (TakesUnder o latest old) latest old taking) t o at gives in
@@ -99,7 +100,7 @@ module _ (view : VersionedManifest) (taking : Taking) (lease : Option Lease) (ol
       let here = took-truncates o latest old under (answer_of taking.replayed (number (installed latest taking old))) takes in
       let same : number (installed latest taking old) ≡ number new = sym (ap number becomes) in
       subst (Truncates o new) (ap (answer_of taking.replayed) same ∙ sym answers)
-      (marked o under (answer_of taking.replayed (number (installed latest taking old))) (sym (ap (λ (f : Follower). f.mark) becomes)) here))
+      (marked o under new (answer_of taking.replayed (number (installed latest taking old))) (sym (ap (λ (f : Follower). f.mark) becomes)) here))
 
 -- where a new checkpoint was put with it
 module _ (plan : Plan Lease) (taking : Taking) (old new : Follower) where

@@ -1,5 +1,6 @@
 -- Tables that are joined: one after others, and those before and after a place.
-use Rattle.std.proofs.Common.{◌≡◌, ℕ, ◌+◌, ◌<◌, List, [], ◌∷◌, ◌++◌, length, take, drop, get_or, sym, ap, subst, ◌∙◌, append_assoc}
+use Rattle.std.proofs.Common.{◌≡◌, ℕ, ◌+◌, ◌<◌, List, [], ◌∷◌, ◌++◌, length, take, drop, get_or, Result, Ok, Err, sym, ap, subst, ◌∙◌, append_assoc}
+use Rattle.std.specs.Result.{OnOk}
 use Rattle.std.proofs.lemmas.Grind.{flat_map-append}
 use Rattle.std.proofs.lemmas.List.{append-nil, take-append-drop, take_more}
 use Rattle.slate_types.specs.declared.batches.Batch.{Batch}
@@ -42,3 +43,7 @@ module _ (tables : List (List Batch)) (i : ℕ) (table : List Batch) (inside : i
 module _ (tables : List (List Batch)) (i : ℕ) (more : List Batch) where
   pub joined-last : joined (take i tables) ++ (joined (drop i tables) ++ more) ≡ joined tables ++ more
   joined-last = sym (append_assoc (joined (take i tables)) (joined (drop i tables)) more) ∙ ap (λ xs. xs ++ more) (joined-split tables i)
+
+pub on-ok : {A E : Type 0} {P Q : Type 0} (r : Result A E) → (P → Q) → OnOk r P → OnOk r Q
+on-ok (Ok x) f h = f h
+on-ok (Err e) f h = tt

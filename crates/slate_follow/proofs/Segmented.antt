@@ -1,13 +1,17 @@
 -- Keys without a segment in batches, one part after another.
-use Rattle.std.proofs.Common.{◌≡◌, ℕ, List, [], ◌∷◌, ◌++◌, Option, Some, None, refl, ap, ◌∙◌}
+use Rattle.std.proofs.Common.{◌≡◌, ℕ, ◌+◌, ◌<◌, List, [], ◌∷◌, ◌++◌, length, take, drop, get_or, Option, Some, None, Result, Ok, Err, inl, inr, refl, sym, ap, subst, ◌∙◌}
 use Rattle.std.specs.Option.{option_or}
+use Rattle.std.specs.Prelude.{◌⊎◌}
+use Rattle.std.specs.Result.{IfErr}
 use Rattle.slate_types.specs.declared.batches.Batch.{Batch}
 use Rattle.slate_types.specs.declared.batches.KeyOp.{KeyOp}
 use Rattle.slate_errors.specs.declared.errors.SlateError.{SlateError}
-use Rattle.slate_errors.specs.declared.errors.SlateError.TheVariants.{EmptySegmentPrefix}
+use Rattle.slate_errors.specs.declared.errors.SlateError.TheVariants.{EmptySegmentPrefix, NoMemory}
 use Rattle.slate_model.specs.Segments.{Extractor, empty_refusal, ops_of, unsegmented_refusal}
 use Rattle.slate_segments.proofs.Taking.{ops-append, unsegmented-append}
+use Rattle.slate_follow.specs.Joined.{joined}
 use Rattle.slate_follow.specs.Rebuilding.{Lacks}
+use Rattle.slate_follow.proofs.Joining.{joined-next, joined-split}
 
 module _ (x : Extractor) where
   refusal-append : (a b : List Batch) → unsegmented_refusal (Some x) (ops_of (a ++ b)) ≡ option_or (unsegmented_refusal (Some x) (ops_of a)) (unsegmented_refusal (Some x) (ops_of b))
@@ -59,3 +63,16 @@ lacks-named (Some x) bs e there = let named = refusal-key x (ops_of bs) e there 
 -- so has more, where the former of two has one
 pub lacks-first : (x : Option Extractor) (a b : List Batch) (key : List ℕ) → Lacks x a key → Lacks x (a ++ b) key
 lacks-first x a b key lacks = first-refused x a b (EmptySegmentPrefix key) lacks
+
+-- and tables, one of which has one
+pub lacks-in : (x : Option Extractor) (tables : List (List Batch)) (i : ℕ) (table : List Batch) → i < length tables → table ≡ get_or tables i table → (key : List ℕ) → Lacks x table key → (first : List ℕ) × Lacks x (joined tables) first
+lacks-in x tables i table inside item key lacks =
+    let later = lacks-later x (joined (take i tables)) table (EmptySegmentPrefix key) lacks in
+    let next = subst (λ bs. Lacks x bs later.0) (sym (joined-next tables i table inside item)) later.1 in
+    (later.0, subst (λ bs. Lacks x bs later.0) (joined-split tables (i + 1)) (lacks-first x (joined (take (i + 1) tables)) (joined (drop (i + 1) tables)) later.0 next))
+
+-- or why taking segments failed
+pub fails-later : {A : Type 0} (x : Option Extractor) (a b : List Batch) (r : Result A SlateError) → IfErr r (λ e. (e ≡ NoMemory) ⊎ ((key : List ℕ) × Lacks x b key)) → IfErr r (λ e. (e ≡ NoMemory) ⊎ ((key : List ℕ) × Lacks x (a ++ b) key))
+fails-later x a b (Ok taken) why = tt
+fails-later x a b (Err e) (inl memory) = inl memory
+fails-later x a b (Err e) (inr (key, lacks)) = inr (lacks-later x a b (EmptySegmentPrefix key) lacks)

@@ -11,11 +11,6 @@ use Rattle.slate_follow.proofs.Rebuilt.{if_some, some_at}
 use Rattle.slate_follow.proofs.Refusing.{err-same, lacks-some}
 use Rattle.slate_follow.proofs.continues.taking_all.Goals as goal
 
-pub taking_anew-requires : goal.taking_anew-requires
-taking_anew-requires g c =
-    let e = c.in_ok-memory.ensures in
-    record { numbered = (c.args.view.now.manifest.last_l0_seq, e.numbered, e.fits, omega arith, omega arith) }
-
 pub returns-clause-builds : goal.returns-clause-builds
 returns-clause-builds g c =
     λ reader open_ tasks.

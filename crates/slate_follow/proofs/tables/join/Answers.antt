@@ -3,7 +3,7 @@ use Rattle.std.proofs.lemmas.List.{take_all}
 use Rattle.slate_reads.specs.Index.{AreRising}
 use Rattle.slate_model.proofs.Free.{numbered-rising}
 use Rattle.slate_follow.specs.Joined.{joined}
-use Rattle.slate_follow.proofs.Joining.{joined-next, next-rises}
+use Rattle.slate_follow.proofs.Joining.{next-rises}
 use Rattle.slate_follow.proofs.tables.join.Goals as goal
 
 pub push_copies-requires : goal.push_copies-requires
@@ -12,14 +12,6 @@ push_copies-requires c =
     let older = c.older-item.result in
     let rises = next-rises c.args.tables.now l.older-index older c.loop-older-test.true c.older-item.is c.requires.0 c.args.table.now c.requires.1 in
     subst (λ bs. AreRising (l.whole ++ bs)) (sym c.batches.ensures.value) (subst (λ bs. AreRising (bs ++ older)) (sym l.invariant) rises)
-
-pub loop-older-preserved : goal.loop-older-preserved
-loop-older-preserved c =
-    let l = c.loop-older in
-    let older = c.older-item.result in
-    c.in_ok-push_copies.ensures
-    ∙ (ap (λ bs. l.whole ++ bs) c.batches.ensures.value
-    ∙ (ap (λ bs. bs ++ older) l.invariant ∙ sym (joined-next c.args.tables.now l.older-index older c.loop-older-test.true c.older-item.is)))
 
 pub push_copies-2-requires : goal.push_copies-2-requires
 push_copies-2-requires c =

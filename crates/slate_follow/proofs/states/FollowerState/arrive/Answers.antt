@@ -1,22 +1,12 @@
-use Rattle.std.proofs.Common.{◌≡◌, ◌∙◌, ◌++◌, ℕ, Bool, List, [], Option, Err, inr, ap, refl, rules, unwrap_or, if◌then◌else◌, subst, sym}
+use Rattle.std.proofs.Common.{◌≡◌, ◌∙◌, ◌++◌, ℕ, Bool, List, [], Option, Err, inr, ap, rules, unwrap_or, if◌then◌else◌, subst, sym}
 use Rattle.slate_types.specs.Line.{batches_above}
 use Rattle.slate_types.specs.declared.batches.Batch.{Batch}
 use Rattle.slate_store.specs.declared.objects.VersionedManifest.{VersionedManifest}
 use Rattle.slate_errors.specs.declared.errors.SlateError.TheVariants.{EmptySegmentPrefix}
 use Rattle.slate_model.specs.Begun.{Begun}
-use Rattle.slate_model.specs.Follower.{Follower}
 use Rattle.slate_follow.specs.Rebuilding.{Lacks}
-use Rattle.slate_follow.proofs.Having.{has-own}
 use Rattle.slate_follow.proofs.Refusing.{err-same}
 use Rattle.slate_follow.proofs.states.FollowerState.arrive.Goals as goal
-
-pub returns-clause-segments : goal.returns-clause-segments
-returns-clause-segments g c x lawful has =
-    let new = c.install.new.self in
-    let b = c.install.ensures.becomes in
-    let taken = c.in_ok-taken.taken in
-    let floor : taken.line.floor ≡ new.view.manifest.last_l0_seq = search rules in
-    has-own x new.view c.args.self.now new taken refl (ap (λ (f : Follower). f.line) b) (ap (λ (f : Follower). f.segments) b) floor (c.in_ok-taken.ensures.segments x lawful has)
 
 pub returns-in_err-taken-clause-lacks : goal.returns-in_err-taken-clause-lacks
 returns-in_err-taken-clause-lacks g c x key lawful is =

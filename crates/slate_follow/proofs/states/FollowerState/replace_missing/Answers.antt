@@ -11,6 +11,7 @@ use Rattle.slate_follow.proofs.Answering.{turn-polling}
 use Rattle.slate_follow.proofs.Having.{has-open}
 use Rattle.slate_follow.proofs.Leased.{mode-leased, written-form}
 use Rattle.slate_follow.proofs.Planned.{failed-by, put-by, unput-by, unstanding}
+use Rattle.slate_follow.proofs.Taken.{counts-then}
 use Rattle.slate_follow.proofs.states.FollowerState.replace_missing.Goals as goal
 
 pub install-answer-requires : goal.install-answer-requires
@@ -40,6 +41,11 @@ returns-in_err-is_put-clause-puts g c =
     let all = failed-by MayLack plan c.args.self.now.lease n.next n.renewed gives {A = PollAnswer} c.in_err-is_put.field-0.0 c.in_err-is_put.ensures.puts in
     let is : c.from_residual-in_err-is_put.result ≡ Err c.in_err-is_put.field-0.0 = search rules in
     rw is all
+
+pub returns-in_err-is_put-clause-faults : goal.returns-in_err-is_put-clause-faults
+returns-in_err-is_put-clause-faults g c =
+    let is : c.from_residual-in_err-is_put.result ≡ Err c.in_err-is_put.field-0.0 = search rules in
+    rw is (counts-then (g.S.Store.faults c.args.store.now) (g.S.Store.faults c.args.store.now) (g.S.Store.faults c.put_next.new.store) c.in_err-is_put.field-0.0 refl c.in_err-is_put.ensures.faults)
 
 pub returns-in_err-is_put-clause-kind : goal.returns-in_err-is_put-clause-kind
 returns-in_err-is_put-clause-kind g c =

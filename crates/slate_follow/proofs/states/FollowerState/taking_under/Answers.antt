@@ -9,17 +9,6 @@ use Rattle.slate_follow.proofs.Rebuilt.{if_some, some_at}
 use Rattle.slate_follow.proofs.Refusing.{err-same}
 use Rattle.slate_follow.proofs.states.FollowerState.taking_under.Goals as goal
 
-pub returns-then-goes_on-clause-takes : goal.returns-then-goes_on-clause-takes
-returns-then-goes_on-clause-takes g c =
-    let old = c.args.self.now in
-    let view = c.args.view.now in
-    let goes : c.goes_on.result ≡ true = search rules in
-    let t = g.S.Store.objects c.args.store.now in
-    if_some t (λ o at.
-    let gone =
-    some_at (λ o. (last : ℕ) × IsLastTaken old.lag (number old) (max old.mark view.manifest.replay_after_wal_id) o last × Gives (GoesOn o view last old) view old c.in_ok-taken.taken) t o at c.in_ok-taken.ensures.gone in
-    inl (c.goes_on.ensures.reads goes, c.goes_on.ensures.reaches goes, gone.0, gone.1, gone.2))
-
 pub returns-clause-takes : goal.returns-clause-takes
 returns-clause-takes g c =
     let old = c.args.self.now in

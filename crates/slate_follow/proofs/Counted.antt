@@ -2,7 +2,7 @@
 use Rattle.std.proofs.Common.{◌≡◌, ℕ, zero, suc, ◌+◌, ◌-◌, ◌*◌, ◌<◌, ◌≤◌, max, map, Option, Some, None, Bool, true, false, cond, Ok, refl, sym, ap, subst, ◌∙◌, arith}
 use Rattle.std.proofs.Math.Nat.{add-mul, mul-le-mul_right}
 use Rattle.std.specs.Option.{IfSome}
-use Rattle.std.specs.Prelude.{ℤ, ◌||◌}
+use Rattle.std.specs.Prelude.{ℤ, List, ◌||◌}
 use Rattle.slate_types.specs.Modelled.{WhereModelled}
 use Rattle.slate_types.specs.declared.batches.Batch.{Batch}
 use Rattle.slate_store.proofs.LastLog.{at_least}

@@ -153,7 +153,7 @@ module _ {t t1 : Option Objects} (x : Option Extractor) (latest : VersionedManif
 
   pub news-keeps : old.mode ≡ ManagedCheckpoint → old.line.floor ≡ old.view.manifest.last_l0_seq → differs old.view latest ≡ false → IfSome t1 (λ o. TakingLacks x o latest old) → IfSome t (λ o. KeepLacks x lease moment old o)
   news-keeps managed floor same lacks =
-      keep-by {P = λ o. TakingLacks x o latest old} lacks (λ o is why. (latest, is, inr (inr (managed, on-taking x o latest old floor same why))))
+      keep-by {P = λ o. TakingLacks x o latest old} lacks (λ o is why. let on = on-taking x o latest old floor same why in (latest, is, inr (inr (managed, on.0, on.1, on.2, on.3, on.4))))
 
   pub renew-keeps : replaces old.view lease moment latest ≡ false → is_due moment lease ≡ true → (held lease' : Option Lease) (t' : Option Objects) →
       WhereModelled (λ o o'. PutsBy {A = Unit {0}} unrefused (renewal old.view latest lease moment) held o (Err errors.InvalidDBState) lease' o') t1 t' → IfSome t (λ o. KeepLacks x lease moment old o)

@@ -26,6 +26,7 @@ impl FollowerState {
         ensures goes { result ≡ goes_on self.now view.now }
         ensures reads { result ≡ true → self.now.skips ≡ false }
         ensures reaches { result ≡ true → Reaches self.now view.now }
+        ensures running { self.now.result ≡ None → self.now.tasks ≡ follower_tasks self.now.mode }
     {
         let floor = self.status.manifest().manifest.last_l0_seq;
         let tabled = view.manifest.last_l0_seq;

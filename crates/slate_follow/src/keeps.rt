@@ -288,7 +288,6 @@ impl FollowerState {
         taken: Taken,
         moment: i64,
     ) -> Result<Option<Kept>, SlateError>
-        requires open_ { self.old.result ≡ None }
         requires leased { self.old.lease ≡ Some lease.now }
         requires floor { taken.line.floor ≡ latest.now.manifest.last_l0_seq }
         ensures faults { CountsFaults (S.faults store.old) (S.faults store.new) result }

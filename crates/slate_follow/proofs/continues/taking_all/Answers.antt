@@ -1,6 +1,7 @@
 use Rattle.std.proofs.Common.{◌≡◌, ◌∙◌, [], Err, Ok, ap, arith, subst, sym}
 use Rattle.std.proofs.lemmas.Result.{err_from_is_err_and}
 use Rattle.slate_types.proofs.Lines.{above-all}
+use Rattle.slate_types.specs.Line.{batches_above}
 use Rattle.slate_replay.specs.Replay.{Replays, line_of}
 use Rattle.slate_errors.specs.declared.errors.SlateError.TheVariants.{EmptySegmentPrefix}
 use Rattle.slate_model.specs.Follower.{number}
@@ -46,4 +47,4 @@ returns-in_err-taken-clause-named g c x key lawful is =
     let p = err_from_is_err_and c.from_residual-in_err-taken.result c.from_residual-in_err-taken.ensures.1 in
     let e = c.in_err-taken.field-0.0 in
     let named : e ≡ EmptySegmentPrefix key = err-same _ e (EmptySegmentPrefix key) (sym (p.1 ∙ ap Err p.2) ∙ is) in
-    lacks-some x _ key (c.in_err-taken.ensures.lacks x key lawful (ap Err named))
+    lacks-some x (batches_above c.args.view.now.manifest.last_l0_seq c.in_ok-memory.memory) key (c.in_err-taken.ensures.lacks x key lawful (ap Err named))

@@ -13,8 +13,8 @@ push_copies-requires c =
     let rises = next-rises c.args.tables.now l.older-index older c.loop-older-test.true c.older-item.is c.requires.0 c.args.table.now c.requires.1 in
     subst (λ bs. AreRising (l.whole ++ bs)) (sym c.batches.ensures.value) (subst (λ bs. AreRising (bs ++ older)) (sym l.invariant) rises)
 
-pub push_copies-2-requires : goal.push_copies-2-requires
-push_copies-2-requires c =
+pub push_copies-requires-2 : goal.push_copies-requires-2
+push_copies-requires-2 c =
     let l = c.loop-older in
     let all = l.invariant ∙ ap joined (take_all l.older-index c.args.tables.now c.loop-older-test.false) in
     let rises = numbered-rising c.requires.0 (joined c.args.tables.now ++ c.args.table.now) c.requires.1 in

@@ -8,8 +8,7 @@ use Rattle.slate_model.specs.declared.answers.PollAnswer.{PollAnswer}
 use Rattle.slate_follow.specs.Keeping.{MayLack, PutsManifest}
 use Rattle.slate_follow.specs.Takings.{installed}
 use Rattle.slate_follow.proofs.Answering.{turn-polling}
-use Rattle.slate_follow.proofs.Having.{has-open}
-use Rattle.slate_follow.proofs.Leased.{mode-leased, written-form}
+use Rattle.slate_follow.proofs.Leased.{written-form}
 use Rattle.slate_follow.proofs.Planned.{failed-by, put-by, unput-by, unstanding}
 use Rattle.slate_follow.proofs.Taken.{counts-then}
 use Rattle.slate_follow.proofs.states.FollowerState.replace_missing.Goals as goal
@@ -70,16 +69,6 @@ returns-clause-becomes g c =
     let l = c.args.lease.now in
     let gives : leased l.lifetime (to_write (Some l.id) (Some l.lifetime) c.args.moment c.args.latest.now) ≡ Ok (Some n.next, n.renewed) = search rules in
     (n.next, n.renewed, gives, c.install-answer.ensures.becomes ∙ ap (λ (f : Follower). installed n.next c.args.taken (record f { lease = Some n.renewed })) c.self.view_is, c.install-answer.ensures.answer)
-
-pub returns-clause-answers : goal.returns-clause-answers
-returns-clause-answers g c =
-    let n = c.in_ok-next in
-    let l = c.args.lease.now in
-    let old = c.args.self.now in
-    let held : c.self.inside.lease ≡ Some l = ap (λ (f : Follower). f.lease) c.self.view_is ∙ c.requires.leased in
-    let managed = ap (λ (f : Follower). f.mode) (sym c.self.view_is) ∙ mode-leased c.self.inside.following.mode c.self.inside.lease l c.self.invariant.leased held in
-    let becomes = c.install-answer.ensures.becomes ∙ ap (λ (f : Follower). installed n.next c.args.taken (record f { lease = Some n.renewed })) c.self.view_is in
-    has-open n.next c.args.taken (Some n.renewed) old c.install-answer.new.self c.install-answer.result becomes c.install-answer.ensures.answer managed c.requires.open_
 
 pub returns-clause-free : goal.returns-clause-free
 returns-clause-free g c =

@@ -1,6 +1,7 @@
-use Rattle.std.proofs.Common.{◌≡◌, ◌∙◌, [], max, Err, None, Ok, ap, subst, sym}
+use Rattle.std.proofs.Common.{◌≡◌, ◌∙◌, ◌++◌, [], max, Err, None, Ok, ap, subst, sym}
 use Rattle.std.proofs.lemmas.Result.{err_from_is_err_and}
 use Rattle.std.specs.Option.{IfSome}
+use Rattle.slate_types.specs.Line.{batches_above}
 use Rattle.slate_replay.specs.Replay.{Replays}
 use Rattle.slate_errors.specs.declared.errors.SlateError.TheVariants.{EmptySegmentPrefix}
 use Rattle.slate_model.specs.Follower.{Follower, follower_tasks}
@@ -50,4 +51,4 @@ returns-in_err-taken-clause-named g c x key lawful is =
     let e = c.in_err-taken.field-0.0 in
     let named : e ≡ EmptySegmentPrefix key = err-same _ e (EmptySegmentPrefix key) (sym (p.1 ∙ ap Err p.2) ∙ is) in
     let lacks = c.in_err-taken.ensures.lacks x key lawful (ap Err named) in
-    lacks-some x _ lacks.0 lacks.1
+    lacks-some x (batches_above c.args.view.now.manifest.last_l0_seq (c.args.self.now.line.batches ++ c.replay.new.memory)) lacks.0 lacks.1

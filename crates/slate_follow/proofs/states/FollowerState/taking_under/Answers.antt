@@ -1,7 +1,7 @@
-use Rattle.std.proofs.Common.{◌≡◌, ◌∙◌, ℕ, List, Err, None, true, false, inl, inr, max, rules, sym, ap, subst}
+use Rattle.std.proofs.Common.{◌≡◌, ◌∙◌, ℕ, List, Err, true, false, inl, inr, max, rules, sym, ap, subst}
 use Rattle.std.proofs.lemmas.Result.{err_from_is_err_and}
 use Rattle.slate_errors.specs.declared.errors.SlateError.TheVariants.{EmptySegmentPrefix}
-use Rattle.slate_model.specs.Follower.{Follower, follower_tasks, number}
+use Rattle.slate_model.specs.Follower.{number}
 use Rattle.slate_follow.specs.Lagging.{IsLastRead, IsLastTaken}
 use Rattle.slate_follow.specs.Rebuilding.{BuildLacks, Builds, GoesOn, GoingLacks}
 use Rattle.slate_follow.specs.Takings.{Gives}
@@ -16,8 +16,7 @@ returns-clause-takes g c =
     let t = g.S.Store.objects c.args.store.now in
     let l = c.in_ok-last in
     let stays : c.goes_on.result ≡ false = search rules in
-    let tasks : old.tasks ≡ follower_tasks old.mode = subst (λ (f : Follower). f.result ≡ None → f.tasks ≡ follower_tasks f.mode) c.self.view_is c.self.invariant.running c.requires.open_ in
-    let built = c.in_ok-anew.ensures.builds old c.requires.open_ tasks in
+    let built = c.in_ok-anew.ensures.builds old c.requires.open_ (c.goes_on.ensures.running c.requires.open_) in
     if_some t (λ o at.
     let builds = some_at (λ o. Gives (Builds o old.mode old.skips old.lag view l.last) view old c.in_ok-anew.anew) (g.S.Store.objects c.last_read.new.store) o (l.ensures.kept ∙ at) built in
     inr (sym c.goes_on.ensures.goes ∙ stays, l.last, some_at (λ o. IsLastRead old view o l.last) t o at l.ensures.read, builds))

@@ -773,8 +773,8 @@ install-answer-requires g c =
     let same : differs old.view v.latest ≡ false = search rules in
     c.in_ok-taken.ensures.floor ∙ sym (tabled-same old.view v.latest same)
 
-pub install-answer-2-requires : goal.install-answer-2-requires
-install-answer-2-requires g c =
+pub install-answer-requires-2 : goal.install-answer-requires-2
+install-answer-requires-2 g c =
     let v = c.in_ok-latest in
     let old = c.args.self.now in
     let same : differs old.view v.latest ≡ false = search rules in

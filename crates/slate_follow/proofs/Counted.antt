@@ -1,5 +1,5 @@
 -- How often a reader that keeps a checkpoint calls the store.
-use Rattle.std.proofs.Common.{◌≡◌, ℕ, zero, suc, ◌+◌, ◌-◌, ◌*◌, ◌<◌, ◌≤◌, max, map, Option, Some, None, Bool, true, false, cond, Ok, refl, sym, ap, subst, ◌∙◌, arith}
+use Rattle.std.proofs.Common.{◌≡◌, ℕ, zero, suc, ◌+◌, ◌-◌, ◌*◌, ◌<◌, ◌≤◌, max, map, List, Option, Some, None, Bool, true, false, cond, Ok, refl, sym, ap, subst, ◌∙◌, arith}
 use Rattle.std.proofs.Math.Nat.{add-mul, mul-le-mul_right}
 use Rattle.std.specs.Option.{IfSome}
 use Rattle.std.specs.Prelude.{ℤ, List, ◌||◌}

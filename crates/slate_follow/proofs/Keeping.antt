@@ -20,7 +20,7 @@ use Rattle.slate_model.specs.Stores.{Stands, by_objects, kept_seen}
 use Rattle.slate_model.specs.declared.answers.PollAnswer.{PollAnswer}
 use Rattle.slate_model.specs.declared.answers.PollAnswer.TheVariants.{Truncated, Whole}
 use Rattle.slate_model.specs.declared.leases.Lease.{Lease}
-use Rattle.slate_follow.specs.Keeping.{ComesFrom, IsNews, MayLack, PutsBy, TakesLatest, informed}
+use Rattle.slate_follow.specs.Keeping.{IsNews, MayLack, PutsBy, TakesLatest, informed}
 use Rattle.slate_follow.specs.Rebuilding.{TakesUnder, answer_of}
 use Rattle.slate_follow.proofs.Informed.{informed-sees, taken-latest}
 use Rattle.slate_follow.proofs.Leased.{renewed, written}
@@ -84,13 +84,13 @@ given-lease refused p old lease o o' answer next given gives puts =
 
 module _ (refused : Objects → SlateError → Type 0) (t : Option Objects) (o o' : Objects) (at : t ≡ Some o) (latest : VersionedManifest) (is : latest_manifest o ≡ Some latest) (lease : Lease) (moment : ℤ) (old new : Follower) (answer : PollAnswer) where
   -- the checkpoint was replaced
-  pub replaced-keeps : (from : Follower) → ComesFrom old from o → replaces old.view lease moment latest ≡ true → PutsBy refused (replacement old.view latest lease moment) old.lease o (Ok answer) new.lease o' → TakesLatest (replacement old.view latest lease moment) from o' new answer →
+  pub replaced-keeps : old.mode ≡ ManagedCheckpoint → replaces old.view lease moment latest ≡ true → PutsBy refused (replacement old.view latest lease moment) old.lease o (Ok answer) new.lease o' → TakesLatest (replacement old.view latest lease moment) old o' new answer →
       Keeps (by_objects t) lease moment old o new answer o'
-  replaced-keeps from comes replaced puts b =
+  replaced-keeps managed replaced puts b =
       let p = replacement old.view latest lease moment in
       let after = put-all refused p old.lease new.lease o o' answer new.view b.given b.puts puts in
       let kept = written o latest is lease.lifetime moment new.view b.given (Some lease.id) b.puts in
-      let takes = subst (λ x. TakesUnder x new.view from (follower_under new.view new) answer) after b.takes in
+      let takes = subst (λ x. TakesUnder x new.view old (follower_under new.view new) answer) after b.takes in
       record {
         latest = latest;
         is_latest = is;
@@ -99,7 +99,7 @@ module _ (refused : Objects → SlateError → Type 0) (t : Option Objects) (o o
         plan = to-replace old.view latest lease moment replaced ∙ b.puts;
         leased = given-lease refused p old.lease new.lease o o' answer (Some new.view) b.given b.puts puts;
         view = subst (λ r. MatchBool r (Some new.view ≡ Some new.view) (new.view ≡ old.view)) (sym replaced) refl;
-        sees = subst (λ x. SeesLatest (by_objects t) old.skips old.lag (SeesPolled (by_objects t) old) (kept_seen old o) new.view x new answer) (sym after) (taken-latest o latest new.view is kept old from comes new answer takes t at);
+        sees = subst (λ x. SeesLatest (by_objects t) old.skips old.lag (SeesPolled (by_objects t) old) (kept_seen old o) new.view x new answer) (sym after) (taken-latest o latest new.view is kept old managed new answer takes t at);
       }
 
   -- so it was, and the reader has what was new before that

@@ -30,7 +30,7 @@ use Rattle.slate_model.specs.Segments.{Extractor, ops_of, unsegmented_refusal}
 use Rattle.slate_model.specs.Stores.{by_objects, kept_seen}
 use Rattle.slate_model.specs.declared.answers.PollAnswer.TheVariants.{Whole}
 use Rattle.slate_model.specs.declared.leases.Lease.{Lease}
-use Rattle.slate_follow.specs.Keeping.{ComesFrom, FindsLatest, KeepLacks, NextLacks, OnLacks, PutsBy, PutsManifest, ReplaceLacks}
+use Rattle.slate_follow.specs.Keeping.{FindsLatest, KeepLacks, NextLacks, OnLacks, PutsBy, PutsManifest, ReplaceLacks}
 use Rattle.slate_follow.specs.Lagging.{IsLastTaken}
 use Rattle.slate_follow.specs.Rebuilding.{GoingLacks, Reaches, TakingLacks}
 use Rattle.slate_follow.proofs.Continued.{goes-refuses, taking-some}
@@ -88,13 +88,13 @@ module _ (o : Objects) (latest next : VersionedManifest) (is : latest_manifest o
 -- ---- a poll
 module _ (t : Option Objects) (x : Option Extractor) (lease : Lease) (moment : ℤ) (old : Follower) (o : Objects) (stored : Line) (at : t ≡ Some o) (content_is : IsContent t stored) (latest : VersionedManifest) (is : latest_manifest o ≡ Some latest) where
   -- a key lacks a segment under the manifest that it puts
-  next-lacks : (from : Follower) → ComesFrom old from o → kept_seen old o stored → NextLacks x (replacement old.view latest lease moment) from o → LacksSegment (by_objects t) x ManagedCheckpoint old.skips false o stored
-  next-lacks from comes seen (next, given, gives, taking) =
+  next-lacks : old.mode ≡ ManagedCheckpoint → kept_seen old o stored → NextLacks x (replacement old.view latest lease moment) old o → LacksSegment (by_objects t) x ManagedCheckpoint old.skips false o stored
+  next-lacks managed seen (next, given, gives, taking) =
       let put = written o latest is lease.lifetime moment next given (Some lease.id) gives in
       let same : content_is.0 ≡ o = some-same content_is.0 o (sym content_is.1 ∙ at) in
       let sound : IsSound o = subst IsSound same content_is.2 in
       let line : stored ≡ content o = content_is.3 ∙ ap content same in
-      let lacks = taken-lacking o latest next is put old from comes t x sound (subst (kept_seen old o) line seen) taking in
+      let lacks = taken-lacking o latest next is put old managed t x sound (subst (kept_seen old o) line seen) taking in
       let refusal = Some (errors.EmptySegmentPrefix lacks.0) in
       let here = refuses-on t x false o (changed (PutManifest next.id next.manifest) o) latest next is (put-is o latest next sound is put.form) put.form (content o) refusal old.skips lacks.1 in
       (lacks.0, subst (λ l. ReplayRefuses (by_objects t) x ManagedCheckpoint old.skips false o l refusal) (sym line) here)
@@ -110,10 +110,10 @@ module _ (t : Option Objects) (x : Option Extractor) (lease : Lease) (moment : �
             (goes-refuses t x o latest last old key reads (ap is_pinned managed) sound is (subst (kept_seen old o) line seen) reaches taken lacks)),
       )
 
-  lacks-by : kept_seen old o stored → (to_keep old.view lease moment latest ≡ Err refusals.InvalidDBState) ⊎ (((from : Follower) × ComesFrom old from o × NextLacks x (replacement old.view latest lease moment) from o) ⊎ OnLacks x old latest o) →
+  lacks-by : kept_seen old o stored → (to_keep old.view lease moment latest ≡ Err refusals.InvalidDBState) ⊎ (((old.mode ≡ ManagedCheckpoint) × NextLacks x (replacement old.view latest lease moment) old o) ⊎ OnLacks x old latest o) →
       PlanIs (to_keep old.view lease moment) o (Err refusals.InvalidDBState) ⊎ LacksSegment (by_objects t) x ManagedCheckpoint old.skips false o stored
   lacks-by seen (inl plan) = inl (latest, is, plan)
-  lacks-by seen (inr (inl (from, comes, next))) = inr (next-lacks from comes seen next)
+  lacks-by seen (inr (inl (managed, next))) = inr (next-lacks managed seen next)
   lacks-by seen (inr (inr news)) = inr (on-lacks seen news)
 
 -- what it takes of a manifest that was put lacks one
@@ -144,12 +144,10 @@ module _ {t t1 : Option Objects} (x : Option Extractor) (latest : VersionedManif
   keep-by : {P : Objects → Type 0} → IfSome t1 P → ((o : Objects) → latest_manifest o ≡ Some latest → P o → KeepLacks x lease moment old o) → IfSome t (λ o. KeepLacks x lease moment old o)
   keep-by {P} all turn = if_some t (λ o at. turn o (some_at (λ o. FindsLatest o (Ok latest)) t o at found) (some_at P t1 o (kept ∙ at) all))
 
-  pub replace-keeps : (from : Follower) → IfSome t (ComesFrom old from) → replaces old.view lease moment latest ≡ true → IfSome t1 (λ o. ReplaceLacks x (replacement old.view latest lease moment) from o) → IfSome t (λ o. KeepLacks x lease moment old o)
-  replace-keeps from comes replaced lacks =
-      let both : IfSome t1 (λ o. ComesFrom old from o × ReplaceLacks x (replacement old.view latest lease moment) from o) =
-      if_some t1 (λ o at. (some_at (ComesFrom old from) t o (sym kept ∙ at) comes, some_at (λ o. ReplaceLacks x (replacement old.view latest lease moment) from o) t1 o at lacks)) in
-      keep-by {P = λ o. ComesFrom old from o × ReplaceLacks x (replacement old.view latest lease moment) from o} both
-      (λ o is why. elim why.1 [ inl plan ↦ (latest, is, inl (to-replace old.view latest lease moment replaced ∙ plan)) | inr next ↦ (latest, is, inr (inl (from, why.0, next))) ])
+  pub replace-keeps : old.mode ≡ ManagedCheckpoint → replaces old.view lease moment latest ≡ true → IfSome t1 (λ o. ReplaceLacks x (replacement old.view latest lease moment) old o) → IfSome t (λ o. KeepLacks x lease moment old o)
+  replace-keeps managed replaced lacks =
+      keep-by {P = λ o. ReplaceLacks x (replacement old.view latest lease moment) old o} lacks
+      (λ o is why. elim why [ inl plan ↦ (latest, is, inl (to-replace old.view latest lease moment replaced ∙ plan)) | inr next ↦ (latest, is, inr (inl (managed, next))) ])
 
   pub news-keeps : old.mode ≡ ManagedCheckpoint → old.line.floor ≡ old.view.manifest.last_l0_seq → differs old.view latest ≡ false → IfSome t1 (λ o. TakingLacks x o latest old) → IfSome t (λ o. KeepLacks x lease moment old o)
   news-keeps managed floor same lacks =
@@ -170,5 +168,5 @@ keep-lacks t x lease moment old o stored at content_is seen lacks = lacks-by t x
 -- that is its plan, or there is an extractor
 pub keep-some : (x : Option Extractor) (lease : Lease) (moment : ℤ) (old : Follower) (o : Objects) → KeepLacks x lease moment old o → PlanIs (to_keep old.view lease moment) o (Err refusals.InvalidDBState) ⊎ IsSome x
 keep-some x lease moment old o (latest, is, inl plan) = inl (latest, is, plan)
-keep-some x lease moment old o (latest, is, inr (inl (from, comes, (next, given, gives, taking)))) = inr (taking-some x (changed (PutManifest next.id next.manifest) o) next from taking)
+keep-some x lease moment old o (latest, is, inr (inl (managed, (next, given, gives, taking)))) = inr (taking-some x (changed (PutManifest next.id next.manifest) o) next old taking)
 keep-some x lease moment old o (latest, is, inr (inr news)) = inr (lacks-some x (batches_above latest.manifest.last_l0_seq (old.line.batches ++ news.5.1.0)) news.5.0 news.5.1.3)

@@ -7,7 +7,7 @@ use Rattle.std.specs.Result.{IfOk}
 use Rattle.slate_types.specs.Modelled.{WhereModelled}
 use Rattle.slate_types.specs.declared.batches.Batch.{Batch}
 use Rattle.slate_store.specs.Checkpoints.{Plan, found, lease_end, to_end}
-use Rattle.slate_store.specs.Objects.{Objects, PutManifest, changed, latest_manifest}
+use Rattle.slate_store.specs.Objects.{Objects, PutManifest, changed}
 use Rattle.slate_store.specs.Refusals.{checkpoint_changes, planned, planned_after}
 use Rattle.slate_store.specs.declared.objects.Checkpoint.{Checkpoint as AnyCheckpoint}
 use Rattle.slate_store.specs.declared.objects.VersionedManifest.{VersionedManifest}
@@ -22,7 +22,7 @@ use Rattle.slate_model.specs.Managed.{Keeps, PlanCause, follower_under, unrefuse
 use Rattle.slate_model.specs.Stores.{Stands, by_objects}
 use Rattle.slate_model.specs.declared.answers.PollAnswer.{PollAnswer}
 use Rattle.slate_model.specs.declared.leases.Lease.{Lease}
-use Rattle.slate_follow.specs.Keeping.{ComesFrom, FindsLatest, MayLack, PutsBy, PutsManifest, Replaces, TakesLatest}
+use Rattle.slate_follow.specs.Keeping.{FindsLatest, MayLack, PutsBy, PutsManifest, Replaces, TakesLatest}
 use Rattle.slate_follow.specs.Takings.{Gives, Taking, installed}
 use Rattle.slate_follow.proofs.Having.{has-news}
 use Rattle.slate_follow.specs.Rebuilding.{TakesUnder, Truncates, answer_of, reached, unleased}
@@ -31,18 +31,6 @@ use Rattle.slate_model.specs.declared.answers.PollAnswer.TheVariants as answers
 use Rattle.slate_follow.proofs.Keeping.{PutsAndKeeps, puts-by, renewal, renewed-keeps, missing-keeps, replaced-keeps, replacement, stays-keeps, to-renewal, to-stay}
 use Rattle.slate_follow.proofs.Planned.{modelled-kept, modelled-put, stays-put}
 use Rattle.slate_follow.proofs.Rebuilt.{if_some, some_at}
-
--- a reader has come on from itself
-pub comes-itself : (o : Objects) (latest : VersionedManifest) → latest_manifest o ≡ Some latest → (old : Follower) → old.mode ≡ ManagedCheckpoint → ComesFrom old old o
-comes-itself o latest is old managed = record {
-  managed = managed;
-  mode = refl;
-  skips = refl;
-  lag = refl;
-  view = refl;
-  came = λ reads sound seen. (latest, is, inl (refl, inl refl));
-  seen = λ reads sound seen. seen;
-}
 
 -- ---- what renews a lease
 end-puts : (lifetime : ℕ) (id : List ℕ) (end : ℤ) (latest : VersionedManifest) (there : Option AnyCheckpoint) (next : Option VersionedManifest) (given : Lease) → leased lifetime (to_end id end latest there) ≡ Ok (next, given) →
@@ -124,16 +112,16 @@ module _ (t : Option Objects) (latest : VersionedManifest) (is : IfSome t (λ o.
   latest_is o at = some_at (λ o. FindsLatest o (Ok latest)) t o at is
 
   -- the checkpoint is replaced
-  pub replaced-kept : (from : Follower) → IfSome t (ComesFrom old from) → replaces old.view lease moment latest ≡ true → {t1 t' : Option Objects} → t1 ≡ t → (r : Result PollAnswer SlateError) →
-      WhereModelled (λ o o'. PutsBy MayLack (replacement old.view latest lease moment) old.lease o r new.lease o') t1 t' → IfOk r (λ answer. IfSome t' (λ o'. TakesLatest (replacement old.view latest lease moment) from o' new answer)) →
+  pub replaced-kept : old.mode ≡ ManagedCheckpoint → replaces old.view lease moment latest ≡ true → {t1 t' : Option Objects} → t1 ≡ t → (r : Result PollAnswer SlateError) →
+      WhereModelled (λ o o'. PutsBy MayLack (replacement old.view latest lease moment) old.lease o r new.lease o') t1 t' → IfOk r (λ answer. IfSome t' (λ o'. TakesLatest (replacement old.view latest lease moment) old o' new answer)) →
       IfOk r (λ answer. WhereModelled (λ o o'. Keeps (by_objects t) lease moment old o new answer o') t t')
-  replaced-kept from comes replaced {t1} {t'} kept (Err e) puts took = tt
-  replaced-kept from comes replaced {t1} {t'} kept (Ok answer) puts took = record {
+  replaced-kept managed replaced {t1} {t'} kept (Err e) puts took = tt
+  replaced-kept managed replaced {t1} {t'} kept (Ok answer) puts took = record {
     none = λ no. puts.none (kept ∙ no);
     some = λ o at.
         let h = puts.some o (kept ∙ at) in
-        let takes = some_at (λ o'. TakesLatest (replacement old.view latest lease moment) from o' new answer) t' h.0 h.1 took in
-        (h.0, h.1, replaced-keeps MayLack t o h.0 at latest (latest_is o at) lease moment old new answer from (some_at (ComesFrom old from) t o at comes) replaced h.2 takes);
+        let takes = some_at (λ o'. TakesLatest (replacement old.view latest lease moment) old o' new answer) t' h.0 h.1 took in
+        (h.0, h.1, replaced-keeps MayLack t o h.0 at latest (latest_is o at) lease moment old new answer managed replaced h.2 takes);
   }
 
   module _ (unreplaced : replaces old.view lease moment latest ≡ false) where

@@ -1,4 +1,4 @@
-use Rattle.std.proofs.Common.{◌≡◌, ◌∙◌, length, ap, arith, subst, sym}
+use Rattle.std.proofs.Common.{◌∙◌, length, ap, arith, subst, sym}
 use Rattle.slate_types.specs.Line.{AreNumberedFrom, batches_above}
 use Rattle.slate_model.specs.Segments.{segments_of}
 use Rattle.slate_follow.proofs.Above.{above-twice, numbered-above}

@@ -1,9 +1,9 @@
-use Rattle.std.proofs.Common.{◌≡◌, ◌∙◌, ℕ, List, Err, true, false, inl, inr, max, rules, sym, ap, subst}
+use Rattle.std.proofs.Common.{◌≡◌, ◌∙◌, ℕ, List, Err, true, false, inl, inr, max, rules, sym, ap}
 use Rattle.std.proofs.lemmas.Result.{err_from_is_err_and}
 use Rattle.slate_errors.specs.declared.errors.SlateError.TheVariants.{EmptySegmentPrefix}
 use Rattle.slate_model.specs.Follower.{number}
 use Rattle.slate_follow.specs.Lagging.{IsLastRead, IsLastTaken}
-use Rattle.slate_follow.specs.Rebuilding.{BuildLacks, Builds, GoesOn, GoingLacks}
+use Rattle.slate_follow.specs.Rebuilding.{BuildLacks, Builds, GoingLacks}
 use Rattle.slate_follow.specs.Takings.{Gives}
 use Rattle.slate_follow.proofs.Rebuilt.{if_some, some_at}
 use Rattle.slate_follow.proofs.Refusing.{err-same}

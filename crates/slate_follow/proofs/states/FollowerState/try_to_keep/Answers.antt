@@ -27,7 +27,7 @@ use Rattle.slate_follow.proofs.Leased.{mode-leased}
 use Rattle.slate_follow.proofs.Planned.{modelled-kept, modelled-put, nothing-put, polling-cause}
 use Rattle.slate_follow.proofs.Refusing.{err-same}
 use Rattle.slate_follow.proofs.Taken.{all-well, counts-on, counts-then}
-use Rattle.slate_follow.proofs.Trying.{comes-itself, if-ok-all, if-ok-as, kept-truncates, missing-all, renewal-done, renewal-failed, renewed-kept, renewed-puts, replaced-kept, stays-kept, stays-puts, unstanding-by, unstanding-none}
+use Rattle.slate_follow.proofs.Trying.{if-ok-all, if-ok-as, kept-truncates, missing-all, renewal-done, renewal-failed, renewed-kept, renewed-puts, replaced-kept, stays-kept, stays-puts, unstanding-by, unstanding-none}
 use Rattle.slate_follow.proofs.states.FollowerState.try_to_keep.Goals as goal
 
 pub returns-then-differs-clause-puts : goal.returns-then-differs-clause-puts
@@ -57,8 +57,7 @@ returns-then-differs-clause-keeps g c =
     let replaced : replaces old.view l m v.latest ≡ true = replaces-by old.view v.latest l m true _ _ other refl refl in
     let held : c.self.inside.lease ≡ Some l = ap (λ (f : Follower). f.lease) c.self.view_is ∙ c.requires.leased in
     let managed : old.mode ≡ ManagedCheckpoint = sym (ap (λ (f : Follower). f.mode) c.self.view_is) ∙ mode-leased c.self.inside.following.mode c.self.inside.lease l c.self.invariant.leased held in
-    let comes = if_some (g.S.Store.objects c.args.store.now) (λ o at. comes-itself o v.latest (some_at (λ o. FindsLatest o (Ok v.latest)) (g.S.Store.objects c.args.store.now) o at v.ensures.found) old managed) in
-    replaced-kept (g.S.Store.objects c.args.store.now) v.latest v.ensures.found l m old r.new.self old comes replaced v.ensures.kept (answered r.result) puts took
+    replaced-kept (g.S.Store.objects c.args.store.now) v.latest v.ensures.found l m old r.new.self managed replaced v.ensures.kept (answered r.result) puts took
 
 pub returns-then-differs-clause-lacks : goal.returns-then-differs-clause-lacks
 returns-then-differs-clause-lacks g c x lawful is =
@@ -71,8 +70,7 @@ returns-then-differs-clause-lacks g c x lawful is =
     let lacks = subst (λ m. IfSome (g.S.Store.objects c.latest_of.new.store) (λ o. ReplaceLacks x (replacement old.view v.latest l m) old o)) (to_z-of_z {w = w64} {z = c.args.moment} (search rules)) (r.ensures.lacks x lawful is) in
     let held : c.self.inside.lease ≡ Some l = ap (λ (f : Follower). f.lease) c.self.view_is ∙ c.requires.leased in
     let managed : old.mode ≡ ManagedCheckpoint = sym (ap (λ (f : Follower). f.mode) c.self.view_is) ∙ mode-leased c.self.inside.following.mode c.self.inside.lease l c.self.invariant.leased held in
-    let comes = if_some (g.S.Store.objects c.args.store.now) (λ o at. comes-itself o v.latest (some_at (λ o. FindsLatest o (Ok v.latest)) (g.S.Store.objects c.args.store.now) o at v.ensures.found) old managed) in
-    replace-keeps x v.latest v.ensures.kept v.ensures.found l c.args.moment old old comes replaced lacks
+    replace-keeps x v.latest v.ensures.kept v.ensures.found l c.args.moment old managed replaced lacks
 
 pub returns-in_err-latest-clause-kind : goal.returns-in_err-latest-clause-kind
 returns-in_err-latest-clause-kind g c =
@@ -471,9 +469,8 @@ returns-then-is_none-clause-lacks g c x lawful is =
     let gone : is_none (found l.id v.latest) ≡ true = search rules in
     let replaced : replaces old.view l m v.latest ≡ true = replaces-by old.view v.latest l m false true true same due gone in
     let undone = to_z-of_z {w = w64} {z = m} (search rules) in
-    let comes = if_some t (λ o at. comes-itself o v.latest (some_at (λ o. FindsLatest o (Ok v.latest)) t o at v.ensures.found) old managed) in
     let lacks = subst (λ m. IfSome t2 (λ o. ReplaceLacks x (replacement old.view v.latest l m) old o)) undone (r.ensures.lacks x is) in
-    replace-keeps x v.latest kept v.ensures.found l m old old comes replaced lacks
+    replace-keeps x v.latest kept v.ensures.found l m old managed replaced lacks
 
 pub returns-in_err-renewed-clause-faults : goal.returns-in_err-renewed-clause-faults
 returns-in_err-renewed-clause-faults g c =

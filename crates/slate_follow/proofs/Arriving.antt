@@ -1,5 +1,5 @@
 -- Why a poll by single calls is refused once it has come to its end.
-use Rattle.std.proofs.Common.{◌≡◌, ◌∙◌, ℕ, List, Option, Some, inl, inr, refl, ap}
+use Rattle.std.proofs.Common.{◌≡◌, ℕ, List, Option, inl, inr, refl}
 use Rattle.std.specs.Option.{IfSome}
 use Rattle.std.specs.Prelude.{◌⊎◌}
 use Rattle.slate_types.specs.Modelled.{WhereModelled}
@@ -24,10 +24,6 @@ memory-keyless e none key is = absurd (cc)
 pub segments-or-key : {B : List ℕ → Type 0} (e : SlateError) (key : List ℕ) → e ≡ errors.EmptySegmentPrefix key → (e ≡ errors.NoMemory) ⊎ ((first : List ℕ) × B first) → (first : List ℕ) × B first
 segments-or-key e key named (inl none) = absurd (memory-keyless e none key named)
 segments-or-key e key named (inr lacks) = lacks
-
-pub refused-key : (e : SlateError) (key : List ℕ) (refusal : Option SlateError) → e ≡ errors.EmptySegmentPrefix key → (e ≡ errors.NoMemory) ⊎ (refusal ≡ Some e) → refusal ≡ Some (errors.EmptySegmentPrefix key)
-refused-key e key refusal named (inl none) = absurd (memory-keyless e none key named)
-refused-key e key refusal named (inr is) = is ∙ ap Some named
 
 -- ---- a step that fails once its call was made
 meets-leaves : (stage : Stage) (reader : Follower) (begun : Begun) (o o' : Objects) (turn : Turn) → MeetsAt stage reader begun o turn o' → LeavesPut stage o o'

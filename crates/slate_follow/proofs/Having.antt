@@ -27,7 +27,7 @@ use Rattle.slate_follow.specs.Keeping.{IsNews, Replaces, informed}
 use Rattle.slate_follow.specs.Lagging.{IsLastRead}
 use Rattle.slate_follow.specs.Rebuilding.{TakesUnder, Truncates, answer_of, goes_on, reached, unleased}
 use Rattle.slate_follow.specs.Takings.{Gives, HasOwn, Taking, installed}
-use Rattle.slate_follow.proofs.Above.{above-append, above-twice, numbered-above}
+use Rattle.slate_follow.proofs.Above.{above-append, numbered-above}
 use Rattle.slate_follow.proofs.Continued.{took-truncates}
 use Rattle.slate_follow.proofs.Informed.{tabled-same}
 use Rattle.slate_follow.proofs.Keeping.{replacement}
@@ -50,12 +50,7 @@ after-numbers m n end bs fresh left numbered end_is more low high left_is =
     let ends = are.1 in
     (are.0, omega (arith, ends, lengths, end_is))
 
--- the prefixes of all that is above a number are its own
-pub own-above : (x : Option Extractor) (n : ℕ) (bs : List Batch) (taking : Taking) → taking.line ≡ line_of n (batches_above n bs) → taking.segments ≡ segments_of x (batches_above n bs) → HasOwn x taking
-own-above x n bs taking line_is are =
-    are ∙ ap (segments_of x) (sym (ap (λ (l : Line). batches_above l.floor l.batches) line_is ∙ above-twice n n bs (omega arith)))
-
--- so are those of the reader that has it
+-- the prefixes of what was taken are those of the reader that has it
 pub has-own : (x : Option Extractor) (view : VersionedManifest) (old new : Follower) (taking : Taking) → new.view ≡ view → new.line ≡ taking.line → new.segments ≡ taking.segments → taking.line.floor ≡ view.manifest.last_l0_seq → HasOwn x taking → HasSegments x new
 has-own x view old new taking view_is line_is segments_is floor own =
     segments_is ∙ (own ∙ ap (segments_of x)

@@ -56,10 +56,6 @@ pub none-lacks : (x : Option Extractor) (key : List ℕ) → Lacks x [] key → 
 none-lacks None key lacks = cc
 none-lacks (Some x) key lacks = cc
 
-pub lacks-named : (x : Option Extractor) (bs : List Batch) (e : SlateError) → unsegmented_refusal x (ops_of bs) ≡ Some e → (key : List ℕ) × Lacks x bs key
-lacks-named None bs e there = absurd (cc)
-lacks-named (Some x) bs e there = let named = refusal-key x (ops_of bs) e there in (named.0, there ∙ ap Some named.1)
-
 -- so has more, where the former of two has one
 pub lacks-first : (x : Option Extractor) (a b : List Batch) (key : List ℕ) → Lacks x a key → Lacks x (a ++ b) key
 lacks-first x a b key lacks = first-refused x a b (EmptySegmentPrefix key) lacks

@@ -13,14 +13,13 @@ use Rattle.slate_model.specs.Managed.{unrefused}
 use Rattle.slate_model.specs.Stores.{Stands}
 use Rattle.slate_store.specs.Refusals.{planned}
 use Rattle.slate_follow.specs.declared.keeps.Kept.{Kept}
-use Rattle.slate_follow.specs.Keeping.{FindsLatest, MayLack, PutsBy, ReplaceLacks, Replaces, TakesLatest, put_tried, answered}
+use Rattle.slate_follow.specs.Keeping.{MayLack, PutsBy, ReplaceLacks, Replaces, TakesLatest, put_tried, answered}
 use Rattle.slate_follow.proofs.Answering.{polling-poll, turn-polling}
 use Rattle.slate_follow.proofs.Counted.{due-costs, news-then, replaced-costs, replaced-first, rest-costs}
 use Rattle.slate_follow.specs.Rebuilding.{TakesUnder, Truncates, answer_of}
 use Rattle.slate_follow.specs.Takings.{Gives, installed}
 use Rattle.slate_follow.proofs.Informed.{tabled-same}
 use Rattle.slate_follow.proofs.Having.{has-open, has-segments, has-truncated, replaced-open, replaced-segments, replaced-truncates}
-use Rattle.slate_follow.proofs.Rebuilt.{if_some, some_at}
 use Rattle.slate_follow.proofs.Keeping.{puts-by, renewal, replacement, replaces-by, to-renewal, to-replace, to-stay}
 use Rattle.slate_follow.proofs.Lacking.{news-keeps, renew-keeps, replace-keeps}
 use Rattle.slate_follow.proofs.Leased.{mode-leased}

@@ -11,7 +11,7 @@ use Rattle.slate_model.specs.Read.{Gives}
 use Rattle.slate_model.specs.Stores.{kept_rows}
 use Rattle.slate_model.specs.Transaction.{Transaction, seen_by, start_bound}
 use Rattle.slate_writer.proofs.Reading.{given, rows-kept}
-use Rattle.slate_writer.proofs.transactions.Transaction.look_through.Goals as goal
+use Rattle.slate_writer.proofs.transactions.Transaction.scan.Goals as goal
 
 pub returns-clause-scan : goal.returns-clause-scan
 returns-clause-scan g c merge lawful =
@@ -20,7 +20,7 @@ returns-clause-scan g c merge lawful =
     let h = c.args.writer.now in
     let t = c.args.self.now in
     let new = c.read_tables.new.store in
-    let it : Iteration = c.in_ok-scan.field-0 in
+    let it : Iteration = c.in_ok-found.found in
     let stored = flat_map (λ table. table) c.as_slice-stored.result.now in
     let rows = stored ++ flat_map (λ table. table) c.from_ref-memory.result.now in
     let options = c.args.options.now in
@@ -29,7 +29,7 @@ returns-clause-scan g c merge lawful =
     let has : kept_rows (objects store) (AHandle h) rows = rows-kept (objects store) h stored c.from_ref-memory.result.now c.as_indexed.result.now
     (rw c.as_slice-stored.ensures.value c.in_ok-stored.ensures.joined) c.from_ref-memory.ensures.value (c.as_indexed.ensures ∙ (c.in_ok-memory.ensures ∙ ap (λ (h : Handle). h.line.batches) c.writer.view_is))
     in
-    let found : IsScan merge (seen_with c.bound-bound.result rows c.self.inside.own) None c.args.range.now options.order it.rows it.fault = c.in_ok-scan.ensures.plain merge lawful in
+    let found : IsScan merge (seen_with c.bound-bound.result rows c.self.inside.own) None c.args.range.now options.order it.rows it.fault = c.in_ok-found.ensures.plain merge lawful in
     let same : seen_with c.bound-bound.result rows c.self.inside.own ≡ seen_by t bound rows =
     ap (λ b. seen_with b rows c.self.inside.own) c.bound-bound.ensures ∙ ap (λ own. seen_with bound rows own) (ap (λ (t : Transaction). t.own) c.self.view_is)
     in
@@ -37,4 +37,4 @@ returns-clause-scan g c merge lawful =
     given h.result h.view.manifest.tables (kept_rows (objects store) (AHandle h)) (known objects g.S.Store.faults store) (known objects g.S.Store.faults new) rows live
     c.in_ok-stored.ensures.faults.stays c.in_ok-stored.ensures.kept (λ none. ap (known objects g.S.Store.faults) (c.in_ok-stored.ensures.untouched none)) has
     (Gives (λ rows it. BeginsScan merge (seen_by t bound rows) None c.args.range.now options.order it)) it
-    (record { unbegun = c.in_ok-scan.ensures.begun; plain = plain })
+    (record { unbegun = c.in_ok-found.ensures.begun; plain = plain })

@@ -221,8 +221,8 @@ impl FollowerState {
     ///
     /// Time linear in the operations that it reads, for each new key a logarithm of the keys, in the batches that it drops, and in
     /// the tables in memory and the prefixes of their batches. What it reads is a table in memory, with which it joins small ones
-    /// before it, so that each operation is indexed again at most as often as its table doubles; so are those of a table of which
-    /// it drops a part.
+    /// before it, so that an operation is indexed again only as its table grows by half; so are those of a table of which it drops a
+    /// part.
     ///
     /// # What stands after
     ///

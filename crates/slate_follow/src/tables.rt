@@ -64,9 +64,9 @@ pub(crate) fn tables_above(
     Ok(left)
 }
 
-/// Adds a table after others. The newest of them that have fewer than `limit` bytes, and no more than what comes after them, become
-/// one table with it. So tables get smaller by half or more from one to the next, but for those with `limit` bytes, and a batch is
-/// copied as often as its table doubled.
+/// Adds a table after others, where it has a batch. The newest of them that have fewer than `limit` bytes, half of which are no more
+/// than those of what comes after them, become one table with it. So a table with fewer has more than twice the bytes of the next, and
+/// a batch is indexed again only as its table grows by half.
 pub(crate) fn add_table(
     alloc: Global,
     tables: &mut Vec<Table>,
@@ -77,6 +77,9 @@ pub(crate) fn add_table(
     ensures ok { OnOk result (joined tables.new.items ≡ joined tables.old.items ++ table) }
     ensures filled { AreFilled tables.old.items → OnOk result (AreFilled tables.new.items) }
 {
+    if table.batches().is_empty() {
+        return Ok(());
+    }
     let first = first_joined(tables.as_slice(), limit, table.size());
     if first == tables.len() {
         return push_table(tables, shared(alloc, table)?);
@@ -94,7 +97,7 @@ fn first_joined(tables: &[Table], limit: u64, size: u64) -> usize
     let mut whole = size;
     while first > 0 {
         let older = tables[first - 1].indexed().size();
-        if older >= limit || older > whole {
+        if older >= limit || older / 2 > whole {
             return first;
         }
         whole = whole.saturating_add(older);

@@ -6,7 +6,7 @@ use Rattle.std.specs.Prelude.{ℤ, List, ◌||◌}
 use Rattle.slate_types.specs.Modelled.{WhereModelled}
 use Rattle.slate_types.specs.declared.batches.Batch.{Batch}
 use Rattle.slate_store.proofs.LastLog.{at_least}
-use Rattle.slate_store.specs.Checkpoints.{Plan, found, to_write}
+use Rattle.slate_store.specs.Checkpoints.{Plan, to_write}
 use Rattle.slate_store.specs.Objects.{Objects, PutManifest, changed, greatest, last_log, latest_manifest}
 use Rattle.slate_store.specs.Refusals.{PlanIs, checkpoint_changes}
 use Rattle.slate_store.specs.declared.objects.VersionedManifest.{VersionedManifest}

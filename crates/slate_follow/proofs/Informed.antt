@@ -1,8 +1,8 @@
 -- What a reader sees that takes what is new, and stays at the manifest that it goes by.
-use Rattle.std.proofs.Common.{◌≡◌, ℕ, ◌+◌, ◌<◌, ◌≤◌, max, inl, inr, List, [], ◌++◌, Option, Some, Bool, true, false, refl, sym, ap, subst, ◌∙◌, arith}
+use Rattle.std.proofs.Common.{◌≡◌, ℕ, ◌<◌, ◌≤◌, max, inl, inr, List, [], ◌++◌, Option, Some, Bool, true, false, refl, sym, ap, subst, ◌∙◌, arith}
 use Rattle.std.proofs.Math.Bool.{or-true}
 use Rattle.std.proofs.lemmas.Bool.{and_parts, eqb-true, not-false}
-use Rattle.slate_types.specs.Line.{IsPrefix, Line, batches_above, end}
+use Rattle.slate_types.specs.Line.{IsPrefix, Line, batches_above}
 use Rattle.slate_types.specs.declared.batches.Batch.{Batch}
 use Rattle.slate_store.specs.Content.{IsSound, content}
 use Rattle.slate_store.specs.Objects.{Objects, PutManifest, changed, last_log, latest_manifest}

@@ -13,7 +13,6 @@ use Rattle.slate_store.specs.declared.objects.Checkpoint.{Checkpoint as AnyCheck
 use Rattle.slate_store.specs.declared.objects.VersionedManifest.{VersionedManifest}
 use Rattle.slate_store.specs.declared.reader_modes.DbReaderMode.TheVariants.{ManagedCheckpoint}
 use Rattle.slate_store.specs.declared.refusals.StoreRefusal.TheVariants as refusals
-use Rattle.slate_replay.specs.declared.replays.Replayed.TheVariants as replays
 use Rattle.slate_errors.specs.declared.errors.SlateError.{SlateError}
 use Rattle.slate_errors.specs.declared.errors.SlateError.TheVariants.{TransactionalObjectTimeout}
 use Rattle.slate_model.specs.Follower.{Follower, follower_tasks, number}
@@ -25,7 +24,7 @@ use Rattle.slate_model.specs.declared.leases.Lease.{Lease}
 use Rattle.slate_follow.specs.Keeping.{FindsLatest, MayLack, PutsBy, PutsManifest, Replaces, TakesLatest}
 use Rattle.slate_follow.specs.Takings.{Gives, Taking, installed}
 use Rattle.slate_follow.proofs.Having.{has-news}
-use Rattle.slate_follow.specs.Rebuilding.{TakesUnder, Truncates, answer_of, reached, unleased}
+use Rattle.slate_follow.specs.Rebuilding.{TakesUnder, Truncates, answer_of, unleased}
 use Rattle.slate_follow.proofs.Continued.{took-truncates}
 use Rattle.slate_model.specs.declared.answers.PollAnswer.TheVariants as answers
 use Rattle.slate_follow.proofs.Keeping.{PutsAndKeeps, puts-by, renewal, renewed-keeps, missing-keeps, replaced-keeps, replacement, stays-keeps, to-renewal, to-stay}

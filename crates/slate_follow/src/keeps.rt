@@ -1,11 +1,10 @@
 // Polling a reader that keeps a checkpoint of its own.
-ghost use Rattle.std.specs.Prelude.{◌≡◌, ◌+◌, ◌-◌, ◌*◌, ◌≤◌, ℕ, [], Option, None, Some, Ok, Err, OnErr, IfOk, IfErr, IfSome, IsSome, false, true};
+ghost use Rattle.std.specs.Prelude.{◌≡◌, ◌+◌, ◌-◌, ◌*◌, ◌≤◌, ℕ, Option, None, Some, Ok, Err, IfOk, IfErr, IfSome, IsSome, false, true};
 ghost use Rattle.std.specs.Option.{option_copied};
 ghost use Rattle.slate_store.specs.Calls.{WhereModelled};
 ghost use Rattle.slate_store.specs.declared.reader_modes.DbReaderMode.TheVariants.{ManagedCheckpoint};
 ghost use Rattle.slate_store.specs.Checkpoints.{found, to_refresh, to_write};
 ghost use Rattle.slate_store.specs.Refusals.{checkpoint_changes, planned};
-ghost use Rattle.slate_model.specs.Follow.{AnswersAt};
 ghost use Rattle.slate_model.specs.Follower.{HasSegments, is_pinned, number};
 ghost use Rattle.slate_model.specs.Known.{CountsFaults, known};
 ghost use Rattle.slate_model.specs.Lease.{differs, is_due, leased, to_keep};
@@ -16,8 +15,8 @@ ghost use Rattle.slate_model.specs.Stores.{Stands, by_objects};
 ghost use Rattle.slate_follow.specs.Keeping.{CallsKeeping, CallsRound, HasTaken, IsOfPolling, KeepLacks, LeftBy, MayLack, MovesBy, PutsBy, ReplaceLacks, Replaces, TakesLatest, answered, kept_answer, put_tried};
 ghost use Rattle.slate_follow.specs.Answering.{IsOfPoll};
 ghost use Rattle.slate_follow.specs.Lagging.{readings};
-ghost use Rattle.slate_follow.specs.Rebuilding.{TakesUnder, TakingLacks, Truncates, answer_of, new_logs};
-ghost use Rattle.slate_follow.specs.Takings.{Gives, HasOwn, installed};
+ghost use Rattle.slate_follow.specs.Rebuilding.{TakesUnder, TakingLacks, Truncates, new_logs};
+ghost use Rattle.slate_follow.specs.Takings.{Gives, HasOwn};
 
 use crate::leases::{latest_of, put_next, with_new_lease, with_renewed_lease};
 use crate::polls::poll_error;

@@ -1,5 +1,5 @@
 // What a reader that follows a database keeps.
-ghost use Rattle.std.specs.Prelude.{◌≡◌, ◌≤◌, [], is_some, length, None, IfOk, OnOk, OnErr};
+ghost use Rattle.std.specs.Prelude.{◌≡◌, ◌≤◌, [], is_some, length, None, IfOk};
 ghost use Rattle.slate_model.specs.Follower.{is_managed, is_pinned, number};
 ghost use Rattle.slate_model.specs.Status.{follower_status};
 

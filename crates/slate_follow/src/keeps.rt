@@ -23,7 +23,7 @@ use crate::polls::poll_error;
 use crate::takings::Taken;
 use crate::{FollowerState, PollAnswer};
 use slate_errors::{CloseFault, SlateError};
-use slate_model::Lease;
+use slate_model::{Lease, recorded};
 use slate_store::{COMMIT_TRIES, Store, VersionedManifest, find_checkpoint};
 use slate_types::PrefixExtractor;
 use std::alloc::Global;
@@ -360,20 +360,11 @@ pub(crate) fn differs(view: &VersionedManifest, latest: &VersionedManifest) -> b
 fn poll_result(error: &SlateError) -> Option<Result<(), CloseFault>>
     ensures { result ≡ poll_result error.now }
 {
-    let fault = match error {
-        SlateError::Fenced => CloseFault::Fenced,
-        SlateError::InvalidDBState => CloseFault::InvalidDBState,
-        SlateError::ObjectStoreError(fault) => CloseFault::ObjectStoreError(*fault),
-        SlateError::TransactionalObjectVersionExists => {
-            CloseFault::TransactionalObjectVersionExists
-        }
-        SlateError::LatestTransactionalObjectVersionMissing => {
-            CloseFault::LatestTransactionalObjectVersionMissing
-        }
+    match error {
+        SlateError::InvalidDBState => Some(Err(CloseFault::InvalidDBState)),
         SlateError::TransactionalObjectTimeout { tries } => {
-            CloseFault::TransactionalObjectTimeout { tries: *tries }
+            Some(Err(CloseFault::TransactionalObjectTimeout { tries: *tries }))
         }
-        _ => return None,
-    };
-    Some(Err(fault))
+        _ => recorded(error),
+    }
 }

@@ -600,7 +600,6 @@ class Run:
                     reader.lease = which, end, lifetime
                 else:
                     self.take_lease(reader, latest, lifetime, moment)
-                    self.replay(reader, reader.view, reader.lag)
         except Fault:
             reader.__dict__ = {**saw, "lease": reader.lease, "result": UNAVAILABLE}
             raise

@@ -1,15 +1,14 @@
 -- The batches above a number: of lists that are joined, of those above a lower number, and of log files.
 pub use Rattle.slate_model.proofs.Fronts.{above-append}
 pub use Rattle.slate_model.proofs.Keeping.{above-twice}
-use Rattle.std.proofs.Common.{◌≡◌, ℕ, suc, zero, inl, inr, ◌+◌, ◌-◌, ◌<◌, ◌≤◌, List, [], ◌∷◌, ◌++◌, length, Option, Some, None, unwrap_or, true, false, refl, sym, subst, ap, take, drop, length-append, length-drop, ◌∙◌, arith, ltb}
+use Rattle.std.proofs.Common.{◌≡◌, ℕ, suc, zero, inl, inr, ◌+◌, ◌-◌, ◌<◌, ◌≤◌, List, [], ◌∷◌, ◌++◌, length, Option, Some, None, unwrap_or, true, false, refl, sym, subst, ap, drop, length-append, length-drop, ◌∙◌, arith, ltb}
 use Rattle.std.proofs.lemmas.Bool.{lt-ltb, le-ltb, cases_lt}
-use Rattle.std.proofs.lemmas.List.{append-nil, length-take-le, take-append-drop}
+use Rattle.std.proofs.lemmas.List.{append-nil}
 use Rattle.std.proofs.lemmas.List.Elements.{recursion_from_All}
 use Rattle.std.specs.List.{All, AllByRecursion, flat_map, range_with_len}
 use Rattle.slate_types.specs.declared.batches.Batch.{Batch}
 use Rattle.slate_types.specs.Line.{AreNumberedFrom, batches_above}
 use Rattle.slate_types.proofs.Lines.{above-drop, numbered-drop}
-use Rattle.slate_model.proofs.Free.{numbered-front}
 use Rattle.slate_store.proofs.Logged.{numbered-append}
 use Rattle.slate_store.specs.Logs.{batches_between}
 use Rattle.slate_store.specs.Objects.{Objects, log_at}
@@ -68,15 +67,4 @@ numbered-above m floor bs left numbered behind reached is =
     let same : batches_above floor (bs ++ []) ≡ left = ap (batches_above floor) (append-nil bs) ∙ sym is in (
       subst (AreNumberedFrom floor) same on.0,
       sym (ap (λ xs. floor + length xs) same) ∙ (on.1 ∙ omega arith),
-    )
-
--- and what is up to one within it
-pub numbered-up_to : (floor n : ℕ) (bs left : List Batch) → AreNumberedFrom floor bs → floor ≤ n → n ≤ floor + length bs → left ≡ take (n - floor) bs → AreNumberedFrom floor left × (floor + length left ≡ n)
-numbered-up_to floor n bs left numbered low high is =
-    let k = n - floor in
-    let within : k ≤ length bs = omega arith in
-    let short : length (take k bs) ≡ k = length-take-le k bs within in
-    let count = ap length is in (
-      subst (AreNumberedFrom floor) (sym is) (numbered-front floor (take k bs) (drop k bs) (subst (AreNumberedFrom floor) (sym (take-append-drop k bs)) numbered)),
-      omega (arith, count, short, low),
     )

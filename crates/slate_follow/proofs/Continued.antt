@@ -33,9 +33,9 @@ use Rattle.slate_model.specs.Stores.{by_objects, kept_seen}
 use Rattle.slate_model.specs.declared.answers.PollAnswer.{PollAnswer}
 use Rattle.slate_model.specs.declared.answers.PollAnswer.TheVariants.{Truncated, Whole}
 use Rattle.slate_model.specs.declared.leases.Lease.{Lease}
-use Rattle.slate_follow.specs.Growing.{ExtendingLacks, added_to}
 use Rattle.slate_follow.specs.Lagging.{IsLastTaken, MayWait, MustRead}
-use Rattle.slate_follow.specs.Rebuilding.{Builds, Continues, GoesOn, GoingLacks, Reaches, ReplaysView, TakesUnder, TakingLacks, Truncates, answer_of, followed, reached, unleased}
+use Rattle.slate_follow.specs.Rebuilding.{Builds, Continues, GoesOn, GoingLacks, Lacks, Reaches, ReplaysView, TakesUnder, TakingLacks, Truncates, answer_of, followed, reached, unleased}
+use Rattle.slate_follow.specs.Takings.{Gives, Taking, installed}
 use Rattle.slate_follow.proofs.Anew.{Waits, WhyRead, builds-lack, builds-polled, read-or-waits}
 use Rattle.slate_follow.proofs.Above.{above-append, above-twice}
 use Rattle.slate_follow.proofs.Lagging.{reads-far, waits-near}
@@ -268,54 +268,45 @@ goes-refuses t x o view last old key reads free sound is seen reaches taken lack
           (subst (λ (f : Follower). GoingLacks x o view last f key) seen.1 lacks),
     )
 
--- ---- a reader that goes on, by the steps of that
--- it has batches after its own, and then goes by a manifest
-module _ (view : VersionedManifest) (old mid new : Follower) (mark : ℕ) (tasks : old.tasks ≡ follower_tasks old.mode) (open_ : old.result ≡ None)
-    (pushed : mid ≡ record old { line = record old.line { batches = mid.line.batches }; segments = mid.segments }) (parts : mid.line.batches ≡ old.line.batches ++ added_to old.line.batches mid.line.batches)
-    (becomes : new ≡ record mid { view = view; line = line_of view.manifest.last_l0_seq (batches_above view.manifest.last_l0_seq mid.line.batches); mark = mark }) where
-  abbrev tabled : ℕ
-  tabled = view.manifest.last_l0_seq
+-- the reader that has what was taken, but for its segments and its lease
+pub taken-by : (view : VersionedManifest) (old : Follower) (taking : Taking) → old.tasks ≡ follower_tasks old.mode → old.result ≡ None → (line : Line) (mark : ℕ) → taking.line ≡ line → taking.mark ≡ mark →
+    unsegmented (unleased (installed view taking old)) ≡ rebuilt old.mode old.skips old.lag view line mark
+taken-by view old taking tasks open_ line mark line_is mark_is =
+    let plain = λ (l : Line) (m : ℕ). record old { view = view; line = l; segments = []; mark = m; lease = None } in
+    ap (λ l. plain l taking.mark) line_is ∙ (ap (plain line) mark_is
+    ∙ (ap (λ t. record (plain line mark) { tasks = t }) tasks ∙ ap (λ r. record (plain line mark) { tasks = follower_tasks old.mode; result = r }) open_))
 
-  pub followed-new : new ≡ record (followed old view (added_to old.line.batches mid.line.batches) mark) { segments = mid.segments; lease = old.lease }
-  followed-new =
-      becomes ∙ (ap (λ (f : Follower). record f { view = view; line = line_of tabled (batches_above tabled mid.line.batches); mark = mark }) pushed
-      ∙ (ap (λ bs. record old { view = view; line = line_of tabled (batches_above tabled bs); segments = mid.segments; mark = mark }) parts
-      ∙ (ap (λ t. record (followed old view (added_to old.line.batches mid.line.batches) mark) { segments = mid.segments; lease = old.lease; result = old.result; tasks = t }) tasks
-      ∙ ap (λ r. record (followed old view (added_to old.line.batches mid.line.batches) mark) { segments = mid.segments; lease = old.lease; result = r }) open_)))
-
--- the log files above what it has gave these batches
+-- ---- what a reader takes that goes on, by the steps of that
 module _ (t t1 : Option Objects) (kept : t1 ≡ t) (view : VersionedManifest) (last from : ℕ) (old : Follower) (from_is : from ≡ max old.mark view.manifest.replay_after_wal_id)
     (reach : IfSome t (λ o. IsLastTaken old.lag (number old) from o last)) where
-  abbrev Taken : Objects → Type 0
-  Taken o = IsLastTaken old.lag (number old) (max old.mark view.manifest.replay_after_wal_id) o last
+  abbrev Reach : Objects → Type 0
+  Reach o = IsLastTaken old.lag (number old) (max old.mark view.manifest.replay_after_wal_id) o last
 
-  taken-at : (o : Objects) → t ≡ Some o → Taken o
-  taken-at o at = subst (λ k. IsLastTaken old.lag (number old) k o last) from_is (some_at (λ o. IsLastTaken old.lag (number old) from o last) t o at reach)
+  reach-at : (o : Objects) → t ≡ Some o → Reach o
+  reach-at o at = subst (λ k. IsLastTaken old.lag (number old) k o last) from_is (some_at (λ o. IsLastTaken old.lag (number old) from o last) t o at reach)
 
-  pub gone-on : (added : List Batch) (found : Replayed) → IfSome t1 (λ o. Replays from last (number old) [] added o (Ok found)) → (new : Follower) (segments : List (List ℕ)) (mark seen : ℕ) (answer : PollAnswer) → mark ≡ reached found last →
-      new ≡ record (followed old view added mark) { segments = segments; lease = old.lease } → answer ≡ answer_of found seen → seen ≡ number new →
-      IfSome t (λ o. (last : ℕ) × IsLastTaken old.lag (number old) (max old.mark view.manifest.replay_after_wal_id) o last × GoesOn o view last old (unleased new) answer)
-  gone-on added found logs new segments mark seen answer mark_is becomes answers seen_is =
-      if_some t
-      (λ o is.
-      let here = some_at (λ o. Replays from last (number old) [] added o (Ok found)) t1 o (kept ∙ is) logs in (
+  logs-at : (added : List Batch) (found : Replayed) → IfSome t1 (λ o. Replays from last (number old) [] added o (Ok found)) → (o : Objects) → t ≡ Some o → Replays (max old.mark view.manifest.replay_after_wal_id) last (number old) [] added o (Ok found)
+  logs-at added found logs o at = subst (λ k. Replays k last (number old) [] added o (Ok found)) from_is (some_at (λ o. Replays from last (number old) [] added o (Ok found)) t1 o (kept ∙ at) logs)
+
+  pub gone-on : (added : List Batch) (found : Replayed) → IfSome t1 (λ o. Replays from last (number old) [] added o (Ok found)) → old.tasks ≡ follower_tasks old.mode → old.result ≡ None → (taking : Taking) (mark : ℕ) →
+      taking.line ≡ line_of view.manifest.last_l0_seq (batches_above view.manifest.last_l0_seq (old.line.batches ++ added)) → taking.mark ≡ mark → mark ≡ reached found last → taking.replayed ≡ found →
+      IfSome t (λ o. (last : ℕ) × IsLastTaken old.lag (number old) (max old.mark view.manifest.replay_after_wal_id) o last × Gives (GoesOn o view last old) view old taking)
+  gone-on added found logs tasks open_ taking mark line mark_is reaches ended =
+      if_some t (λ o at. (
         last,
-        taken-at o is,
+        reach-at o at,
         record {
           added = added;
           found = found;
-          logs = subst (λ k. Replays k last (number old) [] added o (Ok found)) from_is here;
-          becomes = ap (λ (f : Follower). unsegmented (unleased f)) becomes ∙ ap (followed old view added) mark_is;
-          answers = answers ∙ ap (answer_of found) seen_is;
+          logs = logs-at added found logs o at;
+          becomes = taken-by view old taking tasks open_ _ _ line (mark_is ∙ reaches);
+          answers = ap (λ f. answer_of f (number (installed view taking old))) ended;
         },
       ))
 
-  pub going-lacks : (x : Option Extractor) → IfSome t1 (λ o. (key : List ℕ) × ExtendingLacks x from last view.manifest.last_l0_seq old o key) →
+  pub going-lacks : (x : Option Extractor) (added : List Batch) (found : Replayed) → IfSome t1 (λ o. Replays from last (number old) [] added o (Ok found)) → (first : List ℕ) × Lacks x (batches_above view.manifest.last_l0_seq (old.line.batches ++ added)) first →
       IfSome t (λ o. (last : ℕ) × IsLastTaken old.lag (number old) (max old.mark view.manifest.replay_after_wal_id) o last × ((key : List ℕ) × GoingLacks x o view last old key))
-  going-lacks x lacks = if_some t
-      (λ o is.
-      let here = some_at (λ o. (key : List ℕ) × ExtendingLacks x from last view.manifest.last_l0_seq old o key) t1 o (kept ∙ is) lacks in
-      (last, taken-at o is, subst (λ k. (key : List ℕ) × ExtendingLacks x k last view.manifest.last_l0_seq old o key) from_is here))
+  going-lacks x added found logs lacks = if_some t (λ o at. (last, reach-at o at, (lacks.0, (added, found, logs-at added found logs o at, lacks.1))))
 
 -- what went on took what the log files of the latest manifest have
 continues : (o : Objects) (view : VersionedManifest) (last : ℕ) (old new : Follower) (answer : PollAnswer) → latest_manifest o ≡ Some view → is_pinned old.mode ≡ false → Reaches old view →

@@ -1,37 +1,32 @@
 -- How often a reader that keeps a checkpoint calls the store.
-use Rattle.std.proofs.Common.{◌≡◌, ℕ, zero, suc, inl, inr, ◌+◌, ◌-◌, ◌*◌, ◌<◌, ◌≤◌, max, map, length, length-append, is_none, not, Option, Some, None, Bool, true, false, cond, Ok, refl, sym, ap, subst, ◌∙◌, arith}
-use Rattle.std.proofs.lemmas.Bool.{le-leb}
+use Rattle.std.proofs.Common.{◌≡◌, ℕ, zero, suc, ◌+◌, ◌-◌, ◌*◌, ◌<◌, ◌≤◌, max, map, List, Option, Some, None, Bool, true, false, cond, Ok, refl, sym, ap, subst, ◌∙◌, arith}
 use Rattle.std.proofs.Math.Nat.{add-mul, mul-le-mul_right}
 use Rattle.std.specs.Option.{IfSome}
-use Rattle.std.specs.Prelude.{ℤ, List, nat_le, ◌&&◌}
+use Rattle.std.specs.Prelude.{ℤ, List, ◌||◌}
 use Rattle.slate_types.specs.Modelled.{WhereModelled}
 use Rattle.slate_types.specs.declared.batches.Batch.{Batch}
 use Rattle.slate_store.proofs.LastLog.{at_least}
-use Rattle.slate_store.specs.Checkpoints.{Plan, found, to_write}
+use Rattle.slate_store.specs.Checkpoints.{Plan, to_write}
 use Rattle.slate_store.specs.Objects.{Objects, PutManifest, changed, greatest, last_log, latest_manifest}
 use Rattle.slate_store.specs.Refusals.{PlanIs, checkpoint_changes}
 use Rattle.slate_store.specs.declared.objects.VersionedManifest.{VersionedManifest}
 use Rattle.slate_store.specs.declared.reader_modes.DbReaderMode.{DbReaderMode}
 use Rattle.slate_store.specs.declared.reader_modes.DbReaderMode.TheVariants.{Checkpoint, FollowLatest, ManagedCheckpoint}
-use Rattle.slate_replay.specs.declared.replays.Replayed.{Replayed}
-use Rattle.slate_replay.specs.declared.replays.Replayed.TheVariants.{Truncated, Whole}
 use Rattle.slate_errors.specs.declared.errors.SlateError.{SlateError}
 use Rattle.slate_errors.specs.declared.errors.SlateError.TheVariants.{TransactionalObjectTimeout}
 use Rattle.slate_model.proofs.Reduced.{some-same}
 use Rattle.slate_model.specs.Followed.{followed_logs, last_read, logs_under, read_logs}
-use Rattle.slate_model.specs.Follower.{Follower, is_pinned, number}
+use Rattle.slate_model.specs.Follower.{Follower, is_pinned}
 use Rattle.slate_model.specs.Lease.{differs, is_due, leased, to_take}
 use Rattle.slate_model.specs.Managed.{PlanCause, PutsPlanned}
 use Rattle.slate_model.specs.Open.{mark_of, replayed_logs}
 use Rattle.slate_model.specs.Stores.{Stands}
 use Rattle.slate_model.specs.declared.leases.Lease.{Lease}
-use Rattle.slate_follow.specs.Keeping.{CallsRound, FindsLatest, IsNews, PutsManifest, calls_to_keep}
-use Rattle.slate_follow.specs.Lagging.{IsLastTaken, readings}
+use Rattle.slate_follow.specs.Keeping.{CallsRound, FindsLatest, PutsManifest, calls_to_keep}
+use Rattle.slate_follow.specs.Lagging.{readings}
 use Rattle.slate_follow.specs.Rebuilding.{CallsContinuing, CallsRebuilding, goes_on, last_above, new_logs}
 use Rattle.slate_follow.proofs.Continued.{greatest-greater}
 use Rattle.slate_follow.proofs.Lagging.{readings-more}
-use Rattle.slate_follow.specs.Growing.{IsPushed, added_to}
-use Rattle.slate_follow.proofs.Informed.{tabled-same}
 use Rattle.slate_follow.proofs.Leased.{HasCheckpoints, reads, written-form}
 use Rattle.slate_follow.proofs.Rebuilt.{if_some, some_at}
 use Rattle.slate_follow.proofs.Taken.{taken-after, taken-from}
@@ -135,71 +130,6 @@ replaced-calls replaced lifetime moment latest next given gives t t1 puts f mana
     let same = put-new o h.0 latest next (written-form latest lifetime moment next given replaced gives) h.2 f managed in
     omega (arith, same, one, most))
 
--- a reader that took what is new under a manifest has no more to read under it
-module _ (o : Objects) (latest : VersionedManifest) (old mid : Follower) (managed : mid.mode ≡ ManagedCheckpoint) (skips : mid.skips ≡ old.skips) (lag : mid.lag ≡ old.lag) (view : mid.view ≡ old.view) (low : old.view.manifest.last_l0_seq ≤ latest.manifest.last_l0_seq)
-    (reached : latest.manifest.last_l0_seq ≤ number old) (further : number old ≤ number mid) where
-  goes-mid : (s : Bool) → old.skips ≡ s → goes_on mid latest ≡ not s
-  goes-mid true is = ap (λ s. not s && (nat_le mid.view.manifest.last_l0_seq latest.manifest.last_l0_seq && nat_le latest.manifest.last_l0_seq (number mid))) (skips ∙ is)
-  goes-mid false is =
-      let base = ap (λ (v : VersionedManifest). v.manifest.last_l0_seq) view in
-      let first = le-leb mid.view.manifest.last_l0_seq latest.manifest.last_l0_seq (omega (arith, base, low)) in
-      let second = le-leb latest.manifest.last_l0_seq (number mid) (omega (arith, reached, further)) in
-      rw (skips, is, first, second) refl
-
-  goes-old : (s : Bool) → old.skips ≡ s → goes_on old latest ≡ not s
-  goes-old true is = ap (λ s. not s && (nat_le old.view.manifest.last_l0_seq latest.manifest.last_l0_seq && nat_le latest.manifest.last_l0_seq (number old))) is
-  goes-old false is =
-      let first = le-leb old.view.manifest.last_l0_seq latest.manifest.last_l0_seq low in
-      let second = le-leb latest.manifest.last_l0_seq (number old) reached in
-      rw (is, first, second) refl
-
-  abbrev m : ℕ
-  m = latest.manifest.replay_after_wal_id
-
-  abbrev ids : List ℕ
-  ids = map (λ log. log.0) o.logs
-
-  abbrev logs-under : Follower → ℕ
-  logs-under f = cond (goes_on f latest) (last_above f latest o - max f.mark m) (read_logs f.mode f.skips o (Some latest))
-
-  -- how many it reads, where it skips them or not
-  logs-of : (f : Follower) (s : Bool) → goes_on f latest ≡ not s → f.skips ≡ s → logs-under f ≡ cond s (m - m) (greatest (max f.mark m) ids - max f.mark m)
-  logs-of f true goes is = ap (λ b. cond b (last_above f latest o - max f.mark m) (read_logs f.mode f.skips o (Some latest))) goes ∙ ap (λ s. read_logs f.mode s o (Some latest)) is
-  logs-of f false goes is = ap (λ b. cond b (last_above f latest o - max f.mark m) (read_logs f.mode f.skips o (Some latest))) goes
-
-  pub mid-fewer : (old.skips ≡ false → max old.mark m ≤ mid.mark) → new_logs mid latest o ≤ new_logs old latest o
-  mid-fewer later = subst (λ n. readings n (logs-under mid) ≤ new_logs old latest o) (sym lag) (readings-more old.lag (logs-under mid) (logs-under old) (by old.skips refl)) where
-    by : (s : Bool) → old.skips ≡ s → logs-under mid ≤ logs-under old
-    by true is = (let a = logs-of mid true (goes-mid true is) (skips ∙ is) in omega (arith, a))
-    by false is = (let a = logs-of mid false (goes-mid false is) (skips ∙ is) in
-        let b = logs-of old false (goes-old false is) is in
-        let low_mark = later is in
-        let most = greatest-greater mid.mark m ids in
-        let first = greatest-greater old.mark m ids in
-        let least = at_least m ids in
-        omega (arith, a, b, low_mark, most, first, least))
-
--- under the latest manifest it has read those above its mark
-pub taken-later : (o : Objects) (lag number from last : ℕ) → IsLastTaken lag number from o last → from ≤ last
-taken-later o lag number from last (inl (most, why)) = (let least = at_least from (map (λ log. log.0) o.logs) in omega (arith, most, least))
-taken-later o lag number from last (inr (stands, may, waits)) = omega (arith, stands)
-
-news-later : (o : Objects) (latest : VersionedManifest) (old : Follower) (added : List Batch) (found : Replayed) (mark : ℕ) → IsNews o old latest false added found mark → max old.mark latest.manifest.replay_after_wal_id ≤ mark
-news-later o latest old added Whole mark (last, taken, logs, is) = (let least = taken-later o old.lag (number old) (max old.mark latest.manifest.replay_after_wal_id) last taken in omega (arith, is, least))
-news-later o latest old added (Truncated id) mark (last, taken, logs, is) = (let over = logs.ends.above in omega (arith, is, over))
-
-pub mid-fewer-at : (t : Option Objects) (latest : VersionedManifest) (old mid : Follower) (n m : ℕ) (had : Option (List (List ℕ))) → old.mode ≡ ManagedCheckpoint → differs old.view latest ≡ false → old.line.floor ≡ old.view.manifest.last_l0_seq → IsPushed old n m had mid → (found : Replayed) →
-    {t1 : Option Objects} → t1 ≡ t → IfSome t1 (λ o. IsNews o old latest old.skips (added_to old.line.batches mid.line.batches) found mid.mark) → IfSome t (λ o. new_logs mid latest o ≤ new_logs old latest o)
-mid-fewer-at t latest old mid n m had managed same floor pushed found {t1} kept news = if_some t (λ o at.
-    let added = added_to old.line.batches mid.line.batches in
-    let here = some_at (λ o. IsNews o old latest old.skips added found mid.mark) t1 o (kept ∙ at) news in
-    let tabled = tabled-same old.view latest same in
-    let lengths = ap length pushed.parts ∙ length-append old.line.batches added in
-    let base = ap (λ (f : Follower). f.line.floor) pushed.same in
-    mid-fewer o latest old mid (ap (λ (f : Follower). f.mode) pushed.same ∙ managed) (ap (λ (f : Follower). f.skips) pushed.same) (ap (λ (f : Follower). f.lag) pushed.same) (ap (λ (f : Follower). f.view) pushed.same)
-    (omega (arith, tabled)) (omega (arith, tabled, floor)) (omega (arith, lengths, base))
-    (λ reads. news-later o latest old added found mid.mark (subst (λ s. IsNews o old latest s added found mid.mark) reads here)))
-
 -- a try, which finds the latest manifest first
 module _ (latest : VersionedManifest) (t t1 : Option Objects) (kept : t1 ≡ t) (is : IfSome t (λ o. FindsLatest o (Ok latest))) (old : Follower) (managed : old.mode ≡ ManagedCheckpoint) (lease : Lease) (moment : ℤ) (n n1 : ℕ) (one : n1 ≤ n + 1) where
   latest_is : (o : Objects) → t ≡ Some o → latest_manifest o ≡ Some latest
@@ -218,67 +148,41 @@ module _ (latest : VersionedManifest) (t t1 : Option Objects) (kept : t1 ≡ t) 
       subst (λ v. n' ≤ n + calls_to_keep old.view lease moment v (new_logs old v o)) same (most o at))
 
   differing : differs old.view latest ≡ true → (logs : ℕ) → keeping logs ≡ logs + 3
-  differing d logs = ap (λ b. cond b (logs + 3) (cond (is_due moment lease) (cond (is_none (found lease.id latest)) (2 * logs + 4) (logs + 3)) (logs + 2))) d
+  differing d logs = ap (λ b. cond (b || is_due moment lease) (logs + 3) (logs + 2)) d
 
-  same-then : differs old.view latest ≡ false → (logs : ℕ) → keeping logs ≡ cond (is_due moment lease) (cond (is_none (found lease.id latest)) (2 * logs + 4) (logs + 3)) (logs + 2)
-  same-then d logs = ap (λ b. cond b (logs + 3) (cond (is_due moment lease) (cond (is_none (found lease.id latest)) (2 * logs + 4) (logs + 3)) (logs + 2))) d
+  due-then : is_due moment lease ≡ true → (logs : ℕ) → keeping logs ≡ logs + 3
+  due-then due logs = by (differs old.view latest) where
+    by : (d : Bool) → cond (d || is_due moment lease) (logs + 3) (logs + 2) ≡ logs + 3
+    by true = refl
+    by false = ap (λ b. cond b (logs + 3) (logs + 2)) due
 
   resting : differs old.view latest ≡ false → is_due moment lease ≡ false → (logs : ℕ) → keeping logs ≡ logs + 2
-  resting d due logs = same-then d logs ∙ ap (λ b. cond b (cond (is_none (found lease.id latest)) (2 * logs + 4) (logs + 3)) (logs + 2)) due
-
-  due-then : differs old.view latest ≡ false → is_due moment lease ≡ true → (logs : ℕ) → keeping logs ≡ cond (is_none (found lease.id latest)) (2 * logs + 4) (logs + 3)
-  due-then d due logs = same-then d logs ∙ ap (λ b. cond b (cond (is_none (found lease.id latest)) (2 * logs + 4) (logs + 3)) (logs + 2)) due
+  resting d due logs = ap (λ b. cond (b || is_due moment lease) (logs + 3) (logs + 2)) d ∙ ap (λ b. cond b (logs + 3) (logs + 2)) due
 
   -- it replaces the checkpoint then
   module _ (n' : ℕ) (more : IfSome t1 (λ o. n' ≤ n1 + (new_logs old latest o + 2))) where
     then-at : (o : Objects) → t ≡ Some o → n' ≤ n1 + (new_logs old latest o + 2)
     then-at o at = some_at (λ o. n' ≤ n1 + (new_logs old latest o + 2)) t1 o (kept ∙ at) more
 
-    pub replaced-first : IfSome t (λ o. n' ≤ n + 2 * (readings old.lag (replayed_logs o) + 2))
+    pub replaced-first : IfSome t (λ o. n' ≤ n + (readings old.lag (replayed_logs o) + 3))
     replaced-first = if_some t (λ o at. (let a = then-at o at in let b = below old managed o at in omega (arith, one, a, b)))
 
     pub replaced-costs : differs old.view latest ≡ true → IfSome t (λ o. CallsRound o old lease moment n n')
     replaced-costs d = keeping-at n' (λ o at. (let a = then-at o at in let k = differing d (new_logs old latest o) in omega (arith, one, a, k)))
 
   -- it takes what is new then
-  module _ (same : differs old.view latest ≡ false) (n2 : ℕ) (news : IfSome t1 (λ o. differs old.view latest ≡ false → n2 ≤ n1 + (new_logs old latest o + 1))) (n' : ℕ) where
+  module _ (n2 : ℕ) (news : IfSome t1 (λ o. n2 ≤ n1 + (new_logs old latest o + 1))) (n' : ℕ) where
     news-at : (o : Objects) → t ≡ Some o → n2 ≤ n1 + (new_logs old latest o + 1)
-    news-at o at = some_at (λ o. differs old.view latest ≡ false → n2 ≤ n1 + (new_logs old latest o + 1)) t1 o (kept ∙ at) news same
+    news-at o at = some_at (λ o. n2 ≤ n1 + (new_logs old latest o + 1)) t1 o (kept ∙ at) news
 
     pub news-then : n' ≤ n2 + 1 → IfSome t (λ o. n' ≤ n + (readings old.lag (replayed_logs o) + 3))
     news-then more = if_some t (λ o at. (let a = news-at o at in let b = below old managed o at in omega (arith, one, more, a, b)))
 
-    pub news-once : n' ≤ n2 + 1 → IfSome t (λ o. n' ≤ n + 2 * (readings old.lag (replayed_logs o) + 2))
-    news-once more = if_some t (λ o at. (let a = some_at (λ o. n' ≤ n + (readings old.lag (replayed_logs o) + 3)) t o at (news-then more) in omega (arith, a)))
+    pub rest-costs : differs old.view latest ≡ false → is_due moment lease ≡ false → n' ≤ n2 → IfSome t (λ o. CallsRound o old lease moment n n')
+    rest-costs same early more = keeping-at n' (λ o at. (let a = news-at o at in let k = resting same early (new_logs old latest o) in omega (arith, one, more, a, k)))
 
-    pub rest-costs : is_due moment lease ≡ false → n' ≤ n2 → IfSome t (λ o. CallsRound o old lease moment n n')
-    rest-costs early more = keeping-at n' (λ o at. (let a = news-at o at in let k = resting same early (new_logs old latest o) in omega (arith, one, more, a, k)))
-
-    pub renew-costs : is_due moment lease ≡ true → is_none (found lease.id latest) ≡ false → n' ≤ n2 + 1 → IfSome t (λ o. CallsRound o old lease moment n n')
-    renew-costs due there more = keeping-at n' (λ o at.
-        let a = news-at o at in
-        let logs = new_logs old latest o in
-        let k : keeping logs ≡ logs + 3 = due-then same due logs ∙ ap (λ b. cond b (2 * logs + 4) (logs + 3)) there in
-        omega (arith, one, more, a, k))
-
-    -- and then takes a new checkpoint
-    module _ (mid : Follower) (t2 : Option Objects) (kept2 : t2 ≡ t) (fewer : IfSome t (λ o. new_logs mid latest o ≤ new_logs old latest o)) (more : IfSome t2 (λ o. n' ≤ n2 + (new_logs mid latest o + 2))) where
-      more-at : (o : Objects) → t ≡ Some o → n' ≤ n2 + (new_logs old latest o + 2)
-      more-at o at =
-          let a = some_at (λ o. n' ≤ n2 + (new_logs mid latest o + 2)) t2 o (kept2 ∙ at) more in
-          let b = some_at (λ o. new_logs mid latest o ≤ new_logs old latest o) t o at fewer in
-          omega (arith, a, b)
-
-      pub news-twice : IfSome t (λ o. n' ≤ n + 2 * (readings old.lag (replayed_logs o) + 2))
-      news-twice = if_some t (λ o at. (let a = news-at o at in let d = more-at o at in let b = below old managed o at in omega (arith, one, a, d, b)))
-
-      pub missing-costs : is_due moment lease ≡ true → is_none (found lease.id latest) ≡ true → IfSome t (λ o. CallsRound o old lease moment n n')
-      missing-costs due gone = keeping-at n' (λ o at.
-          let a = news-at o at in
-          let d = more-at o at in
-          let logs = new_logs old latest o in
-          let k : keeping logs ≡ 2 * logs + 4 = due-then same due logs ∙ ap (λ b. cond b (2 * logs + 4) (logs + 3)) gone in
-          omega (arith, one, a, d, k))
+    pub due-costs : is_due moment lease ≡ true → n' ≤ n2 + 1 → IfSome t (λ o. CallsRound o old lease moment n n')
+    due-costs due more = keeping-at n' (λ o at. (let a = news-at o at in let k = due-then due (new_logs old latest o) in omega (arith, one, more, a, k)))
 
 -- the first try puts what its plan says, unless a manifest is there already, and then each one finds so
 pub first-costs : (plan : VersionedManifest → Plan Lease) (t t1 : Option Objects) (kept : t1 ≡ t) (earlier n n1 n' : ℕ) (old : Follower) (lease : Lease) (moment : ℤ) → IfSome t (λ o. n1 ≤ n + earlier * (readings old.lag (replayed_logs o) + 3)) →
@@ -299,15 +203,13 @@ module _ (t t1 : Option Objects) (kept : t1 ≡ t) (lag earlier n n1 n' : ℕ) (
       let one = add-mul earlier 1 (readings lag (replayed_logs o) + 3) in
       omega (arith, a, b, one))
 
-  pub last-try : earlier < 8 → IfSome t1 (λ o. n' ≤ n1 + 2 * (readings lag (replayed_logs o) + 2)) → IfSome t (λ o. n' ≤ n + (9 * readings lag (replayed_logs o) + 26))
+  pub last-try : earlier < 8 → IfSome t1 (λ o. n' ≤ n1 + (readings lag (replayed_logs o) + 3)) → IfSome t (λ o. n' ≤ n + 8 * (readings lag (replayed_logs o) + 3))
   last-try fewer then = if_some t (λ o at.
-      let a = some_at (λ o. n1 ≤ n + earlier * (readings lag (replayed_logs o) + 3)) t o at before in
-      let b = some_at (λ o. n' ≤ n1 + 2 * (readings lag (replayed_logs o) + 2)) t1 o (kept ∙ at) then in
-      let most = mul-le-mul_right (readings lag (replayed_logs o) + 3) (omega (arith, fewer)) in
-      let seven : earlier * (readings lag (replayed_logs o) + 3) ≤ 7 * (readings lag (replayed_logs o) + 3) = most in
-      omega (arith, a, b, seven))
+      let a = some_at (λ o. n' ≤ n + (earlier + 1) * (readings lag (replayed_logs o) + 3)) t o at (tries-on then) in
+      let most : (earlier + 1) * (readings lag (replayed_logs o) + 3) ≤ 8 * (readings lag (replayed_logs o) + 3) = mul-le-mul_right (readings lag (replayed_logs o) + 3) (omega (arith, fewer)) in
+      omega (arith, a, most))
 
-pub all-tries : (t : Option Objects) (lag earlier n n1 : ℕ) → IfSome t (λ o. n1 ≤ n + earlier * (readings lag (replayed_logs o) + 3)) → earlier ≤ 8 → IfSome t (λ o. n1 ≤ n + (9 * readings lag (replayed_logs o) + 26))
+pub all-tries : (t : Option Objects) (lag earlier n n1 : ℕ) → IfSome t (λ o. n1 ≤ n + earlier * (readings lag (replayed_logs o) + 3)) → earlier ≤ 8 → IfSome t (λ o. n1 ≤ n + 8 * (readings lag (replayed_logs o) + 3))
 all-tries t lag earlier n n1 before within = if_some t (λ o at.
     let a = some_at (λ o. n1 ≤ n + earlier * (readings lag (replayed_logs o) + 3)) t o at before in
     let most : earlier * (readings lag (replayed_logs o) + 3) ≤ 8 * (readings lag (replayed_logs o) + 3) = mul-le-mul_right (readings lag (replayed_logs o) + 3) within in

@@ -29,7 +29,6 @@ use Rattle.slate_follow.proofs.Informed.{seen-after, tabled-same, under-seen}
 use Rattle.slate_follow.proofs.Keeping.{to-renewal, to-replace, to-stay}
 use Rattle.slate_follow.proofs.Leased.{PutsKept, put-is, renewed, written}
 use Rattle.slate_follow.proofs.Rebuilt.{latest-can}
-use Rattle.slate_follow.proofs.Trying.{comes-itself}
 
 -- a plan that puts nothing is none that puts a manifest
 none-some : (held given : Lease) (m : VersionedManifest) → ◌≡◌ {A = Plan Lease} (Ok (None, held)) (Ok (Some m, given)) → ⊥
@@ -88,7 +87,7 @@ module _ (t : Option Objects) (o : Objects) (at : t ≡ Some o) (line : Line) (s
   pub failed-seen : (latest m : VersionedManifest) → latest_manifest o ≡ Some latest → PutsKept o latest m → kept_seen old (changed (PutManifest m.id m.manifest) o) line
   failed-seen latest m is put =
       let here = subst (kept_seen old o) line_is seen in
-      subst (kept_seen old (changed (PutManifest m.id m.manifest) o)) ((put.keeps sound).1 ∙ sym line_is) (seen-after o latest m is put old old (comes-itself o latest is old managed) sound here)
+      subst (kept_seen old (changed (PutManifest m.id m.manifest) o)) ((put.keeps sound).1 ∙ sym line_is) (seen-after o latest m is put old managed sound here)
 
   module _ (lease : Lease) (moment : ℤ) (made : ℕ) where
     by-plan : (latest : VersionedManifest) → latest_manifest o ≡ Some latest → (p : Plan Lease) → to_keep old.view lease moment latest ≡ p → kept_seen old (after_part made (planned p) o) line
@@ -146,7 +145,7 @@ module _ (t : Option Objects) (o : Objects) (at : t ≡ Some o) (line : Line) (s
           let its = put.keeps sound in
           let tables = ap (λ (v : VersionedManifest). v.manifest.last_l0_seq) (latest_is ∙ put.form.1) in
           from-latest (subst IsSound (sym kept) its.0) (ap content kept ∙ its.1) (ap latest_manifest kept ∙ (put-is o keeps.latest m sound keeps.is_latest put.form ∙ ap Some (sym latest_is)))
-          (subst (λ s. kept_seen old s (content s)) (sym kept) (seen-after o keeps.latest m keeps.is_latest put old old (comes-itself o keeps.latest keeps.is_latest old managed) sound (subst (kept_seen old o) line_is seen)))
+          (subst (λ s. kept_seen old s (content s)) (sym kept) (seen-after o keeps.latest m keeps.is_latest put old managed sound (subst (kept_seen old o) line_is seen)))
           (tabled-by (replaces old.view lease moment keeps.latest) refl tables keeps.view)
 
       pub kept-handed : kept_seen new o' line

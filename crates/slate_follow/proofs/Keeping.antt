@@ -12,14 +12,15 @@ use Rattle.slate_store.specs.declared.reader_modes.DbReaderMode.TheVariants.{Man
 use Rattle.slate_replay.specs.declared.replays.Replayed.{Replayed}
 use Rattle.slate_errors.specs.declared.errors.SlateError.{SlateError}
 use Rattle.slate_model.specs.Changes.{after_part}
-use Rattle.slate_model.specs.Follow.{SeesPolled}
+use Rattle.slate_model.specs.Follow.{HasAllLogs, SeesPolled}
 use Rattle.slate_model.specs.Follower.{Follower, number, unsegmented}
 use Rattle.slate_model.specs.Lease.{differs, is_due, leased, replaces, to_keep, to_renew}
 use Rattle.slate_model.specs.Managed.{Keeps, KeepsOrNot, PutsPlanned, SeesLatest, follower_under}
 use Rattle.slate_model.specs.Stores.{Stands, by_objects, kept_seen}
 use Rattle.slate_model.specs.declared.answers.PollAnswer.{PollAnswer}
+use Rattle.slate_model.specs.declared.answers.PollAnswer.TheVariants.{Truncated, Whole}
 use Rattle.slate_model.specs.declared.leases.Lease.{Lease}
-use Rattle.slate_follow.specs.Keeping.{ComesFrom, IsNews, MayLack, PutsBy, TakesLatest, informed}
+use Rattle.slate_follow.specs.Keeping.{IsNews, MayLack, PutsBy, TakesLatest, informed}
 use Rattle.slate_follow.specs.Rebuilding.{TakesUnder, answer_of}
 use Rattle.slate_follow.proofs.Informed.{informed-sees, taken-latest}
 use Rattle.slate_follow.proofs.Leased.{renewed, written}
@@ -83,13 +84,13 @@ given-lease refused p old lease o o' answer next given gives puts =
 
 module _ (refused : Objects → SlateError → Type 0) (t : Option Objects) (o o' : Objects) (at : t ≡ Some o) (latest : VersionedManifest) (is : latest_manifest o ≡ Some latest) (lease : Lease) (moment : ℤ) (old new : Follower) (answer : PollAnswer) where
   -- the checkpoint was replaced
-  pub replaced-keeps : (from : Follower) → ComesFrom old from o → replaces old.view lease moment latest ≡ true → PutsBy refused (replacement old.view latest lease moment) old.lease o (Ok answer) new.lease o' → TakesLatest (replacement old.view latest lease moment) from o' new answer →
+  pub replaced-keeps : old.mode ≡ ManagedCheckpoint → replaces old.view lease moment latest ≡ true → PutsBy refused (replacement old.view latest lease moment) old.lease o (Ok answer) new.lease o' → TakesLatest (replacement old.view latest lease moment) old o' new answer →
       Keeps (by_objects t) lease moment old o new answer o'
-  replaced-keeps from comes replaced puts b =
+  replaced-keeps managed replaced puts b =
       let p = replacement old.view latest lease moment in
       let after = put-all refused p old.lease new.lease o o' answer new.view b.given b.puts puts in
       let kept = written o latest is lease.lifetime moment new.view b.given (Some lease.id) b.puts in
-      let takes = subst (λ x. TakesUnder x new.view from (follower_under new.view new) answer) after b.takes in
+      let takes = subst (λ x. TakesUnder x new.view old (follower_under new.view new) answer) after b.takes in
       record {
         latest = latest;
         is_latest = is;
@@ -98,7 +99,35 @@ module _ (refused : Objects → SlateError → Type 0) (t : Option Objects) (o o
         plan = to-replace old.view latest lease moment replaced ∙ b.puts;
         leased = given-lease refused p old.lease new.lease o o' answer (Some new.view) b.given b.puts puts;
         view = subst (λ r. MatchBool r (Some new.view ≡ Some new.view) (new.view ≡ old.view)) (sym replaced) refl;
-        sees = subst (λ x. SeesLatest (by_objects t) old.skips old.lag (SeesPolled (by_objects t) old) (kept_seen old o) new.view x new answer) (sym after) (taken-latest o latest new.view is kept old from comes new answer takes t at);
+        sees = subst (λ x. SeesLatest (by_objects t) old.skips old.lag (SeesPolled (by_objects t) old) (kept_seen old o) new.view x new answer) (sym after) (taken-latest o latest new.view is kept old managed new answer takes t at);
+      }
+
+  -- so it was, and the reader has what was new before that
+  logs-so : (f : Follower) (view : VersionedManifest) (given : Option Lease) (a : PollAnswer) → HasAllLogs o' f a → HasAllLogs o' (record f { view = view; lease = given }) a
+  logs-so f view given (Whole at) all = all
+  logs-so f view given (Truncated at) all = tt
+
+  pub missing-keeps : old.mode ≡ ManagedCheckpoint → differs old.view latest ≡ false → old.line.floor ≡ old.view.manifest.last_l0_seq → (bare : Follower) (added : List Batch) (found : Replayed) (mark : ℕ) → IsNews o old latest old.skips added found mark → answer ≡ answer_of found (number bare) →
+      unsegmented bare ≡ record (informed old old.skips added mark) { lease = bare.lease } → replaces old.view lease moment latest ≡ true → (next : VersionedManifest) (given : Lease) → replacement old.view latest lease moment ≡ Ok (Some next, given) → new ≡ record bare { view = next; lease = Some given } →
+      PutsBy refused (replacement old.view latest lease moment) old.lease o (Ok answer) new.lease o' → Keeps (by_objects t) lease moment old o new answer o'
+  missing-keeps managed same floor bare added found mark news answers becomes replaced next given gives new_is puts =
+      let p = replacement old.view latest lease moment in
+      let after = put-all refused p old.lease new.lease o o' answer next given gives puts in
+      let kept = written o latest is lease.lifetime moment next given (Some lease.id) gives in
+      let tables = ap (λ (v : VersionedManifest). v.manifest.last_l0_seq) kept.form.1 in
+      let replayed = ap (λ (v : VersionedManifest). v.manifest.replay_after_wal_id) kept.form.1 in
+      let sees = subst (λ x. SeesLatest (by_objects t) old.skips old.lag (SeesPolled (by_objects t) old) (kept_seen old o) next x bare answer) (sym after)
+      (informed-sees o (changed (PutManifest next.id next.manifest) o) latest next is refl tables replayed old managed same floor added found mark bare.lease bare answer answers t at news becomes) in
+      record {
+        latest = latest;
+        is_latest = is;
+        next = Some next;
+        given = given;
+        plan = to-replace old.view latest lease moment replaced ∙ gives;
+        leased = given-lease refused p old.lease new.lease o o' answer (Some next) given gives puts;
+        view = subst (λ r. MatchBool r (Some next ≡ Some new.view) (new.view ≡ old.view)) (sym replaced) (ap Some (sym (ap (λ (f : Follower). f.view) new_is)));
+        sees = subst (λ f. SeesLatest (by_objects t) old.skips old.lag (SeesPolled (by_objects t) old) (kept_seen old o) next o' f answer) (sym new_is)
+            (record { logs = λ reads none. logs-so bare next (Some given) answer (sees.logs reads none); sees = sees.sees });
       }
 
   -- it goes on by its view

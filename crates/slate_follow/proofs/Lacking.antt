@@ -1,5 +1,5 @@
 -- Keys without a segment under a manifest with other checkpoints, which is put, and of what a reader goes on with.
-use Rattle.std.proofs.Common.{◌≡◌, ◌++◌, ℕ, max, List, [], Bool, true, false, Option, Some, inl, inr, Ok, Err, refl, sym, ap, subst, ◌∙◌, arith}
+use Rattle.std.proofs.Common.{◌≡◌, ◌++◌, ℕ, max, List, [], Bool, true, false, Option, Some, inl, inr, Ok, Err, refl, sym, ap, subst, ◌∙◌}
 use Rattle.std.specs.Option.{IfSome}
 use Rattle.std.specs.Prelude.{ℤ, ◌⊎◌, IsSome}
 use Rattle.slate_types.specs.declared.batches.Batch.{Batch}
@@ -30,16 +30,18 @@ use Rattle.slate_model.specs.Segments.{Extractor, ops_of, unsegmented_refusal}
 use Rattle.slate_model.specs.Stores.{by_objects, kept_seen}
 use Rattle.slate_model.specs.declared.answers.PollAnswer.TheVariants.{Whole}
 use Rattle.slate_model.specs.declared.leases.Lease.{Lease}
-use Rattle.slate_follow.specs.Keeping.{ComesFrom, FindsLatest, KeepLacks, NewsLacks, NextLacks, OnLacks, PutsBy, PutsManifest, ReplaceLacks}
-use Rattle.slate_follow.specs.Growing.{ExtendingLacks}
+use Rattle.slate_follow.specs.Keeping.{FindsLatest, KeepLacks, NextLacks, OnLacks, PutsBy, PutsManifest, ReplaceLacks}
 use Rattle.slate_follow.specs.Lagging.{IsLastTaken}
-use Rattle.slate_follow.specs.Rebuilding.{Lacks, Reaches, TakingLacks}
+use Rattle.slate_follow.specs.Rebuilding.{GoingLacks, Reaches, TakingLacks}
 use Rattle.slate_follow.proofs.Continued.{goes-refuses, taking-some}
-use Rattle.slate_follow.proofs.Informed.{tabled-same, taken-lacking}
+use Rattle.slate_follow.proofs.Informed.{taken-lacking}
 use Rattle.slate_follow.proofs.Keeping.{renewal, replacement, to-renewal, to-replace}
 use Rattle.slate_follow.proofs.Leased.{HasCheckpoints, PutsKept, put-is, written}
 use Rattle.slate_follow.proofs.Rebuilt.{at_stored, builds-refuses, if_some, some_at}
+use Rattle.slate_follow.proofs.Later.{none-replayed}
 use Rattle.slate_follow.proofs.Refusing.{lacks-some}
+use Rattle.slate_follow.proofs.Segmented.{none-lacks}
+use Rattle.slate_follow.proofs.Having.{goes-same, skipped-last}
 
 -- ---- what a manifest refuses that was put after another, that one does
 module _ (t : Option Objects) (x : Option Extractor) (opening : Bool) (o o' : Objects) (latest next : VersionedManifest) (is : latest_manifest o ≡ Some latest) (next_is : latest_manifest o' ≡ Some next)
@@ -86,13 +88,13 @@ module _ (o : Objects) (latest next : VersionedManifest) (is : latest_manifest o
 -- ---- a poll
 module _ (t : Option Objects) (x : Option Extractor) (lease : Lease) (moment : ℤ) (old : Follower) (o : Objects) (stored : Line) (at : t ≡ Some o) (content_is : IsContent t stored) (latest : VersionedManifest) (is : latest_manifest o ≡ Some latest) where
   -- a key lacks a segment under the manifest that it puts
-  next-lacks : (from : Follower) → ComesFrom old from o → kept_seen old o stored → NextLacks x (replacement old.view latest lease moment) from o → LacksSegment (by_objects t) x ManagedCheckpoint old.skips false o stored
-  next-lacks from comes seen (next, given, gives, taking) =
+  next-lacks : old.mode ≡ ManagedCheckpoint → kept_seen old o stored → NextLacks x (replacement old.view latest lease moment) old o → LacksSegment (by_objects t) x ManagedCheckpoint old.skips false o stored
+  next-lacks managed seen (next, given, gives, taking) =
       let put = written o latest is lease.lifetime moment next given (Some lease.id) gives in
       let same : content_is.0 ≡ o = some-same content_is.0 o (sym content_is.1 ∙ at) in
       let sound : IsSound o = subst IsSound same content_is.2 in
       let line : stored ≡ content o = content_is.3 ∙ ap content same in
-      let lacks = taken-lacking o latest next is put old from comes t x sound (subst (kept_seen old o) line seen) taking in
+      let lacks = taken-lacking o latest next is put old managed t x sound (subst (kept_seen old o) line seen) taking in
       let refusal = Some (errors.EmptySegmentPrefix lacks.0) in
       let here = refuses-on t x false o (changed (PutManifest next.id next.manifest) o) latest next is (put-is o latest next sound is put.form) put.form (content o) refusal old.skips lacks.1 in
       (lacks.0, subst (λ l. ReplayRefuses (by_objects t) x ManagedCheckpoint old.skips false o l refusal) (sym line) here)
@@ -108,10 +110,10 @@ module _ (t : Option Objects) (x : Option Extractor) (lease : Lease) (moment : �
             (goes-refuses t x o latest last old key reads (ap is_pinned managed) sound is (subst (kept_seen old o) line seen) reaches taken lacks)),
       )
 
-  lacks-by : kept_seen old o stored → (to_keep old.view lease moment latest ≡ Err refusals.InvalidDBState) ⊎ (((from : Follower) × ComesFrom old from o × NextLacks x (replacement old.view latest lease moment) from o) ⊎ OnLacks x old latest o) →
+  lacks-by : kept_seen old o stored → (to_keep old.view lease moment latest ≡ Err refusals.InvalidDBState) ⊎ (((old.mode ≡ ManagedCheckpoint) × NextLacks x (replacement old.view latest lease moment) old o) ⊎ OnLacks x old latest o) →
       PlanIs (to_keep old.view lease moment) o (Err refusals.InvalidDBState) ⊎ LacksSegment (by_objects t) x ManagedCheckpoint old.skips false o stored
   lacks-by seen (inl plan) = inl (latest, is, plan)
-  lacks-by seen (inr (inl (from, comes, next))) = inr (next-lacks from comes seen next)
+  lacks-by seen (inr (inl (managed, next))) = inr (next-lacks managed seen next)
   lacks-by seen (inr (inr news)) = inr (on-lacks seen news)
 
 -- what it takes of a manifest that was put lacks one
@@ -124,38 +126,32 @@ put-lacks x plan old next given gives t t1 puts lacks =
     let l = some_at (λ o. TakingLacks x o next old) t1 h.0 h.1 lacks in
     inr (next, given, gives, subst (λ s. TakingLacks x s next old) h.2 l))
 
--- what it takes lacks one, by the steps of that
-pub taken-lacks : (t t1 : Option Objects) (x : Option Extractor) (latest : VersionedManifest) (last from tabled : ℕ) (old : Follower) → t1 ≡ t → IfSome t1 (λ o. (key : List ℕ) × ExtendingLacks x from last tabled old o key) →
-    from ≡ max old.mark latest.manifest.replay_after_wal_id → tabled ≡ old.view.manifest.last_l0_seq → IfSome t (λ o. IsLastTaken old.lag (number old) from o last) → old.skips ≡ false → IfSome t (λ o. NewsLacks x old latest o)
-taken-lacks t t1 x latest last from tabled old kept lacks from_is tabled_is reach reads =
-    if_some t
-    (λ o is.
-    let l = some_at (λ o. (key : List ℕ) × ExtendingLacks x from last tabled old o key) t1 o (kept ∙ is) lacks in
-    let taken = subst (λ k. IsLastTaken old.lag (number old) k o last) from_is (some_at (λ o. IsLastTaken old.lag (number old) from o last) t o is reach) in
-    let bs = l.1.0 in
-    let logs = subst (λ k. Replays k last (number old) [] bs o (Ok l.1.1)) from_is l.1.2 in
-    (l.0, bs, l.1.1, reads, last, taken, logs, subst (λ n. Lacks x (batches_above n (old.line.batches ++ bs)) l.0) tabled_is l.1.3))
+-- of a latest manifest that doesn't differ from the view: one that skips log files takes none, and the others go on
+on-taking : (x : Option Extractor) (o : Objects) (latest : VersionedManifest) (old : Follower) → old.line.floor ≡ old.view.manifest.last_l0_seq → differs old.view latest ≡ false → TakingLacks x o latest old →
+    (old.skips ≡ false) × Reaches old latest × (last : ℕ) × IsLastTaken old.lag (number old) (max old.mark latest.manifest.replay_after_wal_id) o last × ((key : List ℕ) × GoingLacks x o latest last old key)
+on-taking x o latest old floor same (inl goes) = goes
+on-taking x o latest old floor same (inr (not_on, last, read, (key, (batches, found, logs, lacks)))) = by old.skips refl where
+  by : (s : Bool) → old.skips ≡ s → (old.skips ≡ false) × Reaches old latest × (last : ℕ) × IsLastTaken old.lag (number old) (max old.mark latest.manifest.replay_after_wal_id) o last × ((key : List ℕ) × GoingLacks x o latest last old key)
+  by false reads = (let goes = goes-same old latest floor same false reads in absurd (cc))
+  by true skips =
+      let m = latest.manifest.replay_after_wal_id in
+      let at = skipped-last old latest o last skips read in
+      let none = none-replayed m latest.manifest.last_l0_seq o batches found (subst (λ k. Replays m k latest.manifest.last_l0_seq [] batches o (Ok found)) at logs) in
+      absurd (none-lacks x key (ap (λ bs. unsegmented_refusal x (ops_of bs)) (sym none.0) ∙ lacks))
 
 -- so a poll does, which finds this manifest first
 module _ {t t1 : Option Objects} (x : Option Extractor) (latest : VersionedManifest) (kept : t1 ≡ t) (found : IfSome t (λ o. FindsLatest o (Ok latest))) (lease : Lease) (moment : ℤ) (old : Follower) where
   keep-by : {P : Objects → Type 0} → IfSome t1 P → ((o : Objects) → latest_manifest o ≡ Some latest → P o → KeepLacks x lease moment old o) → IfSome t (λ o. KeepLacks x lease moment old o)
   keep-by {P} all turn = if_some t (λ o at. turn o (some_at (λ o. FindsLatest o (Ok latest)) t o at found) (some_at P t1 o (kept ∙ at) all))
 
-  pub replace-keeps : (from : Follower) → IfSome t (ComesFrom old from) → replaces old.view lease moment latest ≡ true → IfSome t1 (λ o. ReplaceLacks x (replacement old.view latest lease moment) from o) → IfSome t (λ o. KeepLacks x lease moment old o)
-  replace-keeps from comes replaced lacks =
-      let both : IfSome t1 (λ o. ComesFrom old from o × ReplaceLacks x (replacement old.view latest lease moment) from o) =
-      if_some t1 (λ o at. (some_at (ComesFrom old from) t o (sym kept ∙ at) comes, some_at (λ o. ReplaceLacks x (replacement old.view latest lease moment) from o) t1 o at lacks)) in
-      keep-by {P = λ o. ComesFrom old from o × ReplaceLacks x (replacement old.view latest lease moment) from o} both
-      (λ o is why. elim why.1 [ inl plan ↦ (latest, is, inl (to-replace old.view latest lease moment replaced ∙ plan)) | inr next ↦ (latest, is, inr (inl (from, why.0, next))) ])
+  pub replace-keeps : old.mode ≡ ManagedCheckpoint → replaces old.view lease moment latest ≡ true → IfSome t1 (λ o. ReplaceLacks x (replacement old.view latest lease moment) old o) → IfSome t (λ o. KeepLacks x lease moment old o)
+  replace-keeps managed replaced lacks =
+      keep-by {P = λ o. ReplaceLacks x (replacement old.view latest lease moment) old o} lacks
+      (λ o is why. elim why [ inl plan ↦ (latest, is, inl (to-replace old.view latest lease moment replaced ∙ plan)) | inr next ↦ (latest, is, inr (inl (managed, next))) ])
 
-  pub news-keeps : old.mode ≡ ManagedCheckpoint → old.line.floor ≡ old.view.manifest.last_l0_seq → differs old.view latest ≡ false → IfSome t1 (λ o. NewsLacks x old latest o) → IfSome t (λ o. KeepLacks x lease moment old o)
+  pub news-keeps : old.mode ≡ ManagedCheckpoint → old.line.floor ≡ old.view.manifest.last_l0_seq → differs old.view latest ≡ false → IfSome t1 (λ o. TakingLacks x o latest old) → IfSome t (λ o. KeepLacks x lease moment old o)
   news-keeps managed floor same lacks =
-      let tabled = tabled-same old.view latest same in
-      let reaches : Reaches old latest = (omega (arith, tabled), omega (arith, tabled, floor)) in
-      keep-by {P = λ o. NewsLacks x old latest o} lacks
-      (λ o is why.
-      let here = subst (λ n. Lacks x (batches_above n (old.line.batches ++ why.1)) why.0) tabled why.7 in
-      (latest, is, inr (inr (managed, why.3, reaches, why.4, why.5, (why.0, (why.1, why.2, why.6, here))))))
+      keep-by {P = λ o. TakingLacks x o latest old} lacks (λ o is why. let on = on-taking x o latest old floor same why in (latest, is, inr (inr (managed, on.0, on.1, on.2, on.3, on.4))))
 
   pub renew-keeps : replaces old.view lease moment latest ≡ false → is_due moment lease ≡ true → (held lease' : Option Lease) (t' : Option Objects) →
       WhereModelled (λ o o'. PutsBy {A = Unit {0}} unrefused (renewal old.view latest lease moment) held o (Err errors.InvalidDBState) lease' o') t1 t' → IfSome t (λ o. KeepLacks x lease moment old o)
@@ -172,5 +168,5 @@ keep-lacks t x lease moment old o stored at content_is seen lacks = lacks-by t x
 -- that is its plan, or there is an extractor
 pub keep-some : (x : Option Extractor) (lease : Lease) (moment : ℤ) (old : Follower) (o : Objects) → KeepLacks x lease moment old o → PlanIs (to_keep old.view lease moment) o (Err refusals.InvalidDBState) ⊎ IsSome x
 keep-some x lease moment old o (latest, is, inl plan) = inl (latest, is, plan)
-keep-some x lease moment old o (latest, is, inr (inl (from, comes, (next, given, gives, taking)))) = inr (taking-some x (changed (PutManifest next.id next.manifest) o) next from taking)
+keep-some x lease moment old o (latest, is, inr (inl (managed, (next, given, gives, taking)))) = inr (taking-some x (changed (PutManifest next.id next.manifest) o) next old taking)
 keep-some x lease moment old o (latest, is, inr (inr news)) = inr (lacks-some x (batches_above latest.manifest.last_l0_seq (old.line.batches ++ news.5.1.0)) news.5.0 news.5.1.3)

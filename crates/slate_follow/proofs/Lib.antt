@@ -5,9 +5,9 @@ pub mod Closing
 pub mod Continued
 pub mod Counted
 pub mod Cutting
-pub mod Growing
 pub mod Handed
 pub mod Handing
+pub mod Having
 pub mod Informed
 pub mod Joining
 pub mod Keeping

@@ -1,15 +1,13 @@
 -- What the steps of a reader that keeps a checkpoint of its own put and answer.
-use Rattle.std.specs.Prelude.{◌≡◌, ℕ, ℤ, ◌+◌, ◌*◌, ◌<◌, ◌≤◌, ◌⊎◌, is_none, if◌then◌else◌, Bool, true, false, max, List, [], ◌++◌, length, Option, Some, None, Result, Ok, Err, IfErr, IfSome, IsSome}
+use Rattle.std.specs.Prelude.{◌≡◌, ℕ, ℤ, ◌+◌, ◌*◌, ◌<◌, ◌≤◌, ◌⊎◌, ◌||◌, if◌then◌else◌, Bool, true, false, max, List, [], length, Option, Some, None, Result, Ok, Err, IfErr, IfSome, IsSome}
 use Rattle.slate_types.specs.declared.batches.Batch.{Batch}
-use Rattle.slate_types.specs.Line.{batches_above, end}
 use Rattle.slate_types.specs.declared.store_errors.StoreFault.TheVariants.{Unavailable}
 use Rattle.slate_store.specs.declared.objects.VersionedManifest.{VersionedManifest}
 use Rattle.slate_store.specs.declared.reader_modes.DbReaderMode.TheVariants.{ManagedCheckpoint}
 use Rattle.slate_store.specs.declared.refusals.StoreRefusal.TheVariants as refusals
 use Rattle.slate_store.specs.Calls.{WhereModelled}
 use Rattle.slate_store.specs.Checkpoints.{Plan, found, to_refresh, to_write}
-use Rattle.slate_store.specs.Content.{IsSound, content}
-use Rattle.slate_store.specs.Objects.{Objects, PutManifest, changed, is_present, last_log, latest_manifest}
+use Rattle.slate_store.specs.Objects.{Objects, PutManifest, changed, is_present, latest_manifest}
 use Rattle.slate_store.specs.Refusals.{checkpoint_changes, planned}
 use Rattle.slate_replay.specs.Replay.{Replays, line_of}
 use Rattle.slate_replay.specs.declared.replays.Replayed.{Replayed}
@@ -17,18 +15,18 @@ use Rattle.slate_replay.specs.declared.replays.Replayed.TheVariants.{Whole}
 use Rattle.slate_errors.specs.declared.errors.SlateError.{SlateError}
 use Rattle.slate_errors.specs.declared.errors.SlateError.TheVariants as errors
 use Rattle.slate_model.specs.Changes.{PartMade, after_part}
-use Rattle.slate_model.specs.Follow.{come_by}
 use Rattle.slate_model.specs.Follower.{Follower, number, rebuilt}
 use Rattle.slate_model.specs.Followed.{last_read}
 use Rattle.slate_model.specs.Lease.{differs, is_due, leased, renews_taken, to_keep, to_take}
 use Rattle.slate_model.specs.Managed.{IsOpenAt, Keeps, KeepsOrNot, PutsPlanned, PutsRenewal, follower_under, poll_result}
 use Rattle.slate_model.specs.Segments.{Extractor}
-use Rattle.slate_model.specs.Stores.{Stands, by_objects, kept_seen}
+use Rattle.slate_model.specs.Stores.{Stands, by_objects}
 use Rattle.slate_model.specs.declared.answers.PollAnswer.{PollAnswer}
 use Rattle.slate_model.specs.declared.leases.Lease.{Lease}
 use Rattle.slate_follow.specs.declared.keeps.Kept.{Kept}
 use Rattle.slate_follow.specs.Lagging.{IsLastTaken}
-use Rattle.slate_follow.specs.Rebuilding.{Builds, GoingLacks, Lacks, Reaches, TakesUnder, TakingLacks, followed, new_logs, reached}
+use Rattle.slate_follow.specs.Rebuilding.{Builds, GoingLacks, Reaches, TakesUnder, TakingLacks, answer_of, followed, new_logs, reached}
+use Rattle.slate_follow.specs.Takings.{Taking, installed}
 
 -- the latest manifest, or why it wasn't read
 abbrev pub FindsLatest : Objects → Result VersionedManifest SlateError → Type 0
@@ -122,6 +120,12 @@ pub record TakesLatest (plan : Plan Lease) (old : Follower) (objects : Objects) 
   pub puts : plan ≡ Ok (Some follower.view, given)
   pub takes : TakesUnder objects follower.view old (follower_under follower.view follower) answer
 
+-- or has what its poll found before the plan was put
+abbrev pub Replaces : Plan Lease → Taking → (old new : Follower) → PollAnswer → Type 0
+Replaces plan taking old new answer =
+    (next : VersionedManifest) × (given : Lease) × (plan ≡ Ok (Some next, given)) × (new ≡ record (installed next taking old) { lease = Some given })
+    × (answer ≡ answer_of taking.replayed (number new))
+
 -- What log files have that a reader hasn't replayed yet, under the latest manifest: nothing, for one that skips them.
 abbrev pub IsNews : Objects → Follower → (latest : VersionedManifest) → (skips : Bool) → List Batch → Replayed → (mark : ℕ) → Type 0
 IsNews objects follower latest true added found mark =
@@ -142,34 +146,7 @@ IsOfPolling (errors.ObjectStoreError Unavailable) = Unit {0}
 IsOfPolling errors.NoMemory = Unit {0}
 IsOfPolling error = ⊥
 
--- a key of what a reader has, with what log files have that it hasn't replayed yet under the latest manifest, has no segment
-abbrev pub NewsLacks : Option Extractor → Follower → (latest : VersionedManifest) → Objects → Type 0
-NewsLacks extractor follower latest objects =
-    (key : List ℕ) × (added : List Batch) × (found : Replayed) × (follower.skips ≡ false)
-    × (last : ℕ) × IsLastTaken follower.lag (number follower) (max follower.mark latest.manifest.replay_after_wal_id) objects last
-    × Replays (max follower.mark latest.manifest.replay_after_wal_id) last (number follower) [] added objects (Ok found)
-    × Lacks extractor (batches_above follower.view.manifest.last_l0_seq (follower.line.batches ++ added)) key
-
--- A reader is at the number where it was, with no mark past the latest replay mark but its own, or at the end of what is stored, which
--- it would have lagged behind further than it may.
-abbrev pub HasCome : (old from : Follower) → Objects → Type 0
-HasCome old from objects =
-    (latest : VersionedManifest) × (latest_manifest objects ≡ Some latest)
-    × (((number from ≡ number old) × ((from.mark ≡ old.mark) ⊎ (from.mark ≡ max old.mark latest.manifest.replay_after_wal_id)))
-    ⊎ ((number from ≡ end (content objects)) × (from.mark ≡ last_log latest.manifest.replay_after_wal_id objects) × ((old.lag ≡ 0) ⊎ (come_by old latest + old.lag < end (content objects)))))
-
--- A reader has come on from what it was: in the mode that keeps a checkpoint, and where it reads log files it has seen them up to its
--- mark, as it had before.
-pub record ComesFrom (old from : Follower) (objects : Objects) : Type 0 where
-  pub managed : old.mode ≡ ManagedCheckpoint
-  pub mode : from.mode ≡ old.mode
-  pub skips : from.skips ≡ old.skips
-  pub lag : from.lag ≡ old.lag
-  pub view : from.view ≡ old.view
-  pub came : from.skips ≡ false → IsSound objects → kept_seen old objects (content objects) → HasCome old from objects
-  pub seen : from.skips ≡ false → IsSound objects → kept_seen old objects (content objects) → kept_seen from objects (content objects)
-
--- so has what it takes that goes on by the latest manifest
+-- a key of what a reader takes that goes on by the latest manifest has no segment
 abbrev pub OnLacks : Option Extractor → Follower → (latest : VersionedManifest) → Objects → Type 0
 OnLacks extractor follower latest objects =
     (follower.mode ≡ ManagedCheckpoint) × (follower.skips ≡ false) × Reaches follower latest
@@ -191,7 +168,7 @@ abbrev pub KeepLacks : Option Extractor → Lease → (moment : ℤ) → Followe
 KeepLacks extractor lease moment follower objects =
     (latest : VersionedManifest) × (latest_manifest objects ≡ Some latest)
     × ((to_keep follower.view lease moment latest ≡ Err refusals.InvalidDBState)
-    ⊎ (((from : Follower) × ComesFrom follower from objects × NextLacks extractor (leased lease.lifetime (to_write (Some lease.id) (Some lease.lifetime) moment latest)) from objects)
+    ⊎ (((follower.mode ≡ ManagedCheckpoint) × NextLacks extractor (leased lease.lifetime (to_write (Some lease.id) (Some lease.lifetime) moment latest)) follower objects)
     ⊎ OnLacks extractor follower latest objects))
 
 -- ---- a second put
@@ -236,12 +213,9 @@ LeftBy moment old before error new after = FailsRound moment old before error ne
 
 -- ---- calls
 -- How often a round of a poll of a reader that keeps a checkpoint calls a store, where log files are to be read so often: it reads the latest
--- manifest and asks for the last log file, and puts a manifest where its view differs or its lease is due; where its checkpoint isn't
--- there then, it asks for the last log file again, and may read those again that are left after a missing one.
+-- manifest and asks for the last log file, and puts a manifest where its view differs or its lease is due.
 abbrev pub calls_to_keep : (view : VersionedManifest) → Lease → (moment : ℤ) → (latest : VersionedManifest) → (logs : ℕ) → ℕ
-calls_to_keep view lease moment latest logs =
-    if differs view latest then logs + 3
-    else (if is_due moment lease then (if is_none (found lease.id latest) then 2 * logs + 4 else logs + 3) else logs + 2)
+calls_to_keep view lease moment latest logs = if differs view latest || is_due moment lease then logs + 3 else logs + 2
 
 -- at most so often, where it answers Ok
 abbrev pub CallsRound : Objects → Follower → Lease → (moment : ℤ) → (calls calls' : ℕ) → Type 0

@@ -1,8 +1,6 @@
 pub mod Answering
-pub mod Arriving
 pub mod Begun
 pub mod Following
-pub mod Growing
 pub mod Joined
 pub mod Keeping
 pub mod Kept
@@ -12,3 +10,4 @@ pub mod Publishing
 pub mod Rebuilding
 pub mod Scanned
 pub mod Stepping
+pub mod Takings

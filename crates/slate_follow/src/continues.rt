@@ -1,31 +1,24 @@
 // Taking what log files have that a reader hasn't replayed yet.
-ghost use Rattle.std.specs.Prelude.{◌≡◌, ◌⊎◌, ◌+◌, ◌-◌, ◌<◌, ◌≤◌, ◌^◌, ◌++◌, ℕ, List, Option, None, Some, Err, OnOk, OnErr, false, true, max, length, take, IfOk, IfErr, IfSome, IsSome};
+ghost use Rattle.std.specs.Prelude.{◌≡◌, ◌+◌, ◌-◌, ◌≤◌, ℕ, List, Option, None, Err, OnErr, false, true, max, IfOk, IfErr, IfSome, IsSome};
 ghost use Rattle.std.specs.Option.{option_copied};
-ghost use Rattle.slate_types.specs.declared.batches.Batch.{Batch};
-ghost use Rattle.slate_types.specs.Line.{batches_above};
 ghost use Rattle.slate_model.specs.Follow.{AnswersAt};
 ghost use Rattle.slate_model.specs.Followed.{read_logs};
-ghost use Rattle.slate_model.specs.Follower.{HasSegments, is_pinned, number};
+ghost use Rattle.slate_model.specs.Follower.{Follower, HasSegments, follower_tasks, is_pinned, number};
 ghost use Rattle.slate_model.specs.Known.{CountsFaults};
-ghost use Rattle.slate_model.specs.Segments.{Extractor, IsExtractor, segments_of};
-ghost use Rattle.slate_segments.specs.Refusals.{IsOfSegment};
-ghost use Rattle.slate_replay.specs.Replay.{line_of};
-ghost use Rattle.slate_follow.specs.Growing.{ExtendingLacks, Grew};
-ghost use Rattle.slate_follow.specs.Rebuilding.{GoesOn, GoingLacks, IsOfRebuilding, IsOfReplay, Lacks, Reaches, TakesUnder, TakingLacks, goes_on, last_above, new_logs, unleased};
+ghost use Rattle.slate_model.specs.Segments.{Extractor, IsExtractor};
+ghost use Rattle.slate_follow.specs.Rebuilding.{BuildLacks, Builds, GoesOn, GoingLacks, IsOfRebuilding, IsOfReplay, Reaches, TakesUnder, TakingLacks, goes_on, last_above, new_logs, unleased};
 ghost use Rattle.slate_follow.specs.Lagging.{IsLastRead, IsLastTaken, readings};
+ghost use Rattle.slate_follow.specs.Takings.{Gives, HasOwn};
 
-use crate::rebuilds::{answer_of, last_above, last_taken, reached, rebuild};
-use crate::segments::segments_above;
-use crate::tables::{append_logs, drop_through, truncate};
+use crate::rebuilds::{last_above, last_taken, reached};
+use crate::takings::{Taken, taking_anew};
 use crate::{FollowerState, PollAnswer};
-use bytes::Bytes;
 use slate_errors::SlateError;
-use slate_replay::Replayed;
-use slate_status::union;
+use slate_reads::IndexedTable;
+use slate_replay::{recover, replay};
 use slate_store::{Store, VersionedManifest};
-use slate_types::{PrefixExtractor, Seq};
+use slate_types::PrefixExtractor;
 use std::alloc::Global;
-use std::mem;
 
 impl FollowerState {
     /// Whether it goes on by a manifest: it reads log files, and its batches lead up to the tables.
@@ -33,6 +26,7 @@ impl FollowerState {
         ensures goes { result ≡ goes_on self.now view.now }
         ensures reads { result ≡ true → self.now.skips ≡ false }
         ensures reaches { result ≡ true → Reaches self.now view.now }
+        ensures running { self.now.result ≡ None → self.now.tasks ≡ follower_tasks self.now.mode }
     {
         let floor = self.status.manifest().manifest.last_l0_seq;
         let tabled = view.manifest.last_l0_seq;
@@ -63,14 +57,38 @@ impl FollowerState {
         ensures refusals { IfErr result IsOfRebuilding }
         ensures calls { IfSome (S.objects store.old) (λ o. S.calls store.new ≤ S.calls store.old + (new_logs self.old view o + 1)) }
     {
-        if self.goes_on(&view) {
-            let answer = self.go_on(alloc, store, view, extractor)?;
-            return Ok(answer);
+        let taken = self.taking_under(alloc, store, &view, extractor)?;
+        Ok(self.install(Some(view), taken))
+    }
+
+    /// What it takes that goes by a manifest. It isn't changed.
+    pub(crate) fn taking_under<S: Store, E: PrefixExtractor>(
+        &self,
+        alloc: Global,
+        store: &mut S,
+        view: &VersionedManifest,
+        extractor: Option<&E>,
+    ) -> Result<Taken, SlateError>
+        requires open_ { self.now.result ≡ None }
+        requires free { is_pinned self.now.mode ≡ false }
+        ensures faults { CountsFaults (S.faults store.old) (S.faults store.new) result }
+        ensures kept { S.objects store.new ≡ S.objects store.old }
+        ensures floor { IfOk result (λ taken. taken.line.floor ≡ view.now.manifest.last_l0_seq) }
+        ensures takes { IfOk result (λ taken. IfSome (S.objects store.old) (λ o. Gives (TakesUnder o view.now self.now) view.now self.now taken)) }
+        ensures segments { (x : Option Extractor) → IsExtractor E.may_name E.may_extract (option_copied extractor.entry) x → HasSegments x self.now → IfOk result (HasOwn x) }
+        ensures lacks { (x : Option Extractor) (key : List ℕ) → IsExtractor E.may_name E.may_extract (option_copied extractor.entry) x →
+            result ≡ Err (SlateError.EmptySegmentPrefix key) → IfSome (S.objects store.old) (λ o. TakingLacks x o view.now self.now) }
+        ensures named { (x : Option Extractor) (key : List ℕ) → IsExtractor E.may_name E.may_extract (option_copied extractor.entry) x → result ≡ Err (SlateError.EmptySegmentPrefix key) → IsSome x }
+        ensures refusals { IfErr result IsOfRebuilding }
+        ensures calls { IfSome (S.objects store.old) (λ o. S.calls store.new ≤ S.calls store.old + (new_logs self.now view.now o + 1)) }
+    {
+        if self.goes_on(view) {
+            let taken = self.taking_more(alloc, store, view, extractor)?;
+            return Ok(taken);
         }
-        let last = self.last_read(alloc, store, &view)?;
-        let (rebuilt, answer) = rebuild(alloc, store, self.following, view, last, extractor)?;
-        self.take(alloc, rebuilt)?;
-        Ok(answer)
+        let last = self.last_read(alloc, store, view)?;
+        let anew = taking_all(alloc, store, view, last, extractor)?;
+        Ok(anew)
     }
 
     /// The last log file that it replays where it begins by the tables of a manifest.
@@ -99,26 +117,24 @@ impl FollowerState {
         last_taken(alloc, store, self.following.lag, tabled, from)
     }
 
-    /// Goes by a manifest, and takes what log files have that it hasn't replayed yet.
-    fn go_on<S: Store, E: PrefixExtractor>(
-        &mut self,
+    /// What it takes that goes on by a manifest: what log files have that it hasn't replayed yet.
+    fn taking_more<S: Store, E: PrefixExtractor>(
+        &self,
         alloc: Global,
         store: &mut S,
-        view: VersionedManifest,
+        view: &VersionedManifest,
         extractor: Option<&E>,
-    ) -> Result<PollAnswer, SlateError>
-        requires open_ { self.old.result ≡ None }
-        requires reaches { Reaches self.old view }
+    ) -> Result<Taken, SlateError>
+        requires open_ { self.now.result ≡ None }
+        requires reaches { Reaches self.now view.now }
         ensures faults { CountsFaults (S.faults store.old) (S.faults store.new) result }
-        ensures calls { IfSome (S.objects store.old) (λ o. S.calls store.new ≤ S.calls store.old + (readings self.old.lag (last_above self.old view o - max self.old.mark view.manifest.replay_after_wal_id) + 1)) }
+        ensures calls { IfSome (S.objects store.old) (λ o. S.calls store.new ≤ S.calls store.old + (readings self.now.lag (last_above self.now view.now o - max self.now.mark view.now.manifest.replay_after_wal_id) + 1)) }
         ensures kept { S.objects store.new ≡ S.objects store.old }
-        ensures gone { IfOk result (λ answer. IfSome (S.objects store.old) (λ o. (last : ℕ) × IsLastTaken self.old.lag (number self.old) (max self.old.mark view.manifest.replay_after_wal_id) o last × GoesOn o view last self.old (unleased self.new) answer)) }
-        ensures asked { IfOk result (λ answer. (self.new.mode ≡ self.old.mode) × (self.new.skips ≡ self.old.skips) × (self.new.lag ≡ self.old.lag) × (self.new.lease ≡ self.old.lease)
-            × (self.new.result ≡ None) × (self.new.view ≡ view) × AnswersAt (number self.new) answer) }
-        ensures failed { OnErr result (self.new ≡ self.old) }
-        ensures segments { (x : Option Extractor) → IsExtractor E.may_name E.may_extract (option_copied extractor.entry) x → HasSegments x self.old → HasSegments x self.new }
+        ensures floor { IfOk result (λ taken. taken.line.floor ≡ view.now.manifest.last_l0_seq) }
+        ensures gone { IfOk result (λ taken. IfSome (S.objects store.old) (λ o. (last : ℕ) × IsLastTaken self.now.lag (number self.now) (max self.now.mark view.now.manifest.replay_after_wal_id) o last × Gives (GoesOn o view.now last self.now) view.now self.now taken)) }
+        ensures segments { (x : Option Extractor) → IsExtractor E.may_name E.may_extract (option_copied extractor.entry) x → HasSegments x self.now → IfOk result (HasOwn x) }
         ensures lacks { (x : Option Extractor) (key : List ℕ) → IsExtractor E.may_name E.may_extract (option_copied extractor.entry) x →
-            result ≡ Err (SlateError.EmptySegmentPrefix key) → IfSome (S.objects store.old) (λ o. (last : ℕ) × IsLastTaken self.old.lag (number self.old) (max self.old.mark view.manifest.replay_after_wal_id) o last × ((first : List ℕ) × GoingLacks x o view last self.old first)) }
+            result ≡ Err (SlateError.EmptySegmentPrefix key) → IfSome (S.objects store.old) (λ o. (last : ℕ) × IsLastTaken self.now.lag (number self.now) (max self.now.mark view.now.manifest.replay_after_wal_id) o last × ((first : List ℕ) × GoingLacks x o view.now last self.now first)) }
         ensures named { (x : Option Extractor) (key : List ℕ) → IsExtractor E.may_name E.may_extract (option_copied extractor.entry) x → result ≡ Err (SlateError.EmptySegmentPrefix key) → IsSome x }
         ensures refusals { IfErr result IsOfRebuilding }
     {
@@ -126,101 +142,37 @@ impl FollowerState {
         let tabled = view.manifest.last_l0_seq;
         let number = self.number();
         let last = last_taken(alloc, store, self.following.lag, number, from)?;
-        let (replayed, _had) = self.extend(alloc, store, from, last, tabled, extractor)?;
-        self.go_by(view, reached(replayed, last));
-        Ok(answer_of(replayed, self.number()))
+        let mut fresh = IndexedTable::new(alloc);
+        let replayed = replay(alloc, store, &mut fresh, number, from, last)?;
+        let mark = reached(replayed, last);
+        let taken = self.taking_after(alloc, tabled, fresh, mark, replayed, extractor)?;
+        Ok(taken)
     }
+}
 
-    /// Adds what the log files above `from` up to `last` have after its batches, and takes the segments of those that are above
-    /// the number `tabled` then. It answers how the replay ended, and the segments that it had. Where it fails, it is as before.
-    pub(crate) fn extend<S: Store, E: PrefixExtractor>(
-        &mut self,
-        alloc: Global,
-        store: &mut S,
-        from: u64,
-        last: u64,
-        tabled: u64,
-        extractor: Option<&E>,
-    ) -> Result<(Replayed, Seq<Bytes>), SlateError>
-        requires behind { self.old.view.manifest.last_l0_seq ≤ tabled }
-        requires arrived { tabled ≤ number self.old }
-        ensures grew { IfOk result (λ p. Grew (number self.old) from last (S.objects store.old) self.old.line.batches self.new.line.batches p.0) }
-        ensures same { IfOk result (λ p. self.new ≡ record self.old { line = record self.old.line { batches = self.new.line.batches }; segments = self.new.segments }) }
-        ensures had { IfOk result (λ p. p.1 ≡ self.old.segments) }
-        ensures segments { (x : Option Extractor) → IsExtractor E.may_name E.may_extract (option_copied extractor.entry) x → IfOk result (λ p.
-            HasSegments x self.old → self.new.segments ≡ segments_of x (batches_above tabled self.new.line.batches)) }
-        ensures err { OnErr result (self.new ≡ self.old) }
-        ensures lacks { (x : Option Extractor) (key : List ℕ) → IsExtractor E.may_name E.may_extract (option_copied extractor.entry) x →
-            result ≡ Err (SlateError.EmptySegmentPrefix key) → IfSome (S.objects store.old) (λ o. (first : List ℕ) × ExtendingLacks x from last tabled self.old o first) }
-        ensures named { (x : Option Extractor) (key : List ℕ) → IsExtractor E.may_name E.may_extract (option_copied extractor.entry) x → result ≡ Err (SlateError.EmptySegmentPrefix key) → IsSome x }
-        ensures refusals { IfErr result IsOfRebuilding }
-        ensures faults { CountsFaults (S.faults store.old) (S.faults store.new) result }
-        ensures calls { S.calls store.new ≤ S.calls store.old + (last - from) }
-        ensures kept { S.objects store.new ≡ S.objects store.old }
-    {
-        let number = self.number;
-        let added = append_logs(
-            alloc,
-            store,
-            &mut self.kept,
-            self.limit,
-            number,
-            from,
-            last,
-            extractor,
-        )?;
-        self.number += added.count;
-        match self.segments_then(alloc, extractor, added.prefixes.as_slice(), tabled) {
-            Ok(segments) => Ok((added.replayed, mem::replace(&mut self.segments, segments))),
-            Err(error) => {
-                self.take_back(number);
-                Err(error)
-            }
-        }
-    }
-
-    /// The segments of its batches above a number, where its own are those of the batches before some with these prefixes. It looks at
-    /// its batches only where the tables of its manifest don't end there.
-    pub(crate) fn segments_then<E: PrefixExtractor>(
-        &self,
-        alloc: Global,
-        extractor: Option<&E>,
-        prefixes: &[Bytes],
-        tabled: u64,
-    ) -> Result<Seq<Bytes>, SlateError>
-        ensures ok { (x : Option Extractor) → IsExtractor E.may_name E.may_extract (option_copied extractor.entry) x → IfOk result (λ segments. (old added : List Batch) →
-            self.now.line.batches ≡ old ++ added → self.now.segments ≡ segments_of x old → prefixes.now ≡ segments_of x added →
-            segments ≡ segments_of x (batches_above tabled self.now.line.batches)) }
-        ensures err { (x : Option Extractor) → IsExtractor E.may_name E.may_extract (option_copied extractor.entry) x → IfErr result (λ error.
-            (error ≡ SlateError.NoMemory) ⊎ ((key : List ℕ) × Lacks x (batches_above tabled self.now.line.batches) key)) }
-        ensures kind { IfErr result IsOfSegment }
-    {
-        if tabled == self.status.manifest().manifest.last_l0_seq {
-            let all = union(alloc, self.segments.as_slice(), prefixes)?;
-            return Ok(Seq::of(all));
-        }
-        let all = segments_above(alloc, extractor, self.kept.as_slice(), tabled)?;
-        Ok(Seq::of(all))
-    }
-
-    /// Takes the batches above a number back.
-    pub(crate) fn take_back(&mut self, end: u64)
-        requires low { self.old.line.floor ≤ end }
-        requires high { end ≤ number self.old }
-        ensures { self.new ≡ record self.old { line = record self.old.line { batches = take (end - self.old.line.floor) self.old.line.batches } } }
-    {
-        let floor = self.status.manifest().manifest.last_l0_seq;
-        truncate(&mut self.kept, (end - floor) as usize);
-        self.number = end;
-    }
-
-    /// Goes by a manifest, which its batches reach, and drops those that are in its tables.
-    pub(crate) fn go_by(&mut self, view: VersionedManifest, mark: u64)
-        requires reaches { Reaches self.old view }
-        ensures { self.new ≡ record self.old { view = view; line = line_of view.manifest.last_l0_seq (batches_above view.manifest.last_l0_seq self.old.line.batches); mark = mark } }
-    {
-        drop_through(&mut self.kept, view.manifest.last_l0_seq);
-        self.mark = mark;
-        self.status.report_view(self.number, view);
-    }
+/// What a reader takes that begins by the tables of a manifest: what log files up to the last one have above these.
+fn taking_all<S: Store, E: PrefixExtractor>(
+    alloc: Global,
+    store: &mut S,
+    view: &VersionedManifest,
+    last: u64,
+    extractor: Option<&E>,
+) -> Result<Taken, SlateError>
+    ensures faults { CountsFaults (S.faults store.old) (S.faults store.new) result }
+    ensures calls { S.calls store.new ≤ S.calls store.old + (last - view.now.manifest.replay_after_wal_id) }
+    ensures kept { S.objects store.new ≡ S.objects store.old }
+    ensures floor { IfOk result (λ taken. taken.line.floor ≡ view.now.manifest.last_l0_seq) }
+    ensures builds { (reader : Follower) → reader.result ≡ None → reader.tasks ≡ follower_tasks reader.mode →
+        IfOk result (λ taken. IfSome (S.objects store.old) (λ o. Gives (Builds o reader.mode reader.skips reader.lag view.now last) view.now reader taken)) }
+    ensures segments { (x : Option Extractor) → IsExtractor E.may_name E.may_extract (option_copied extractor.entry) x → IfOk result (HasOwn x) }
+    ensures lacks { (x : Option Extractor) (key : List ℕ) → IsExtractor E.may_name E.may_extract (option_copied extractor.entry) x →
+        result ≡ Err (SlateError.EmptySegmentPrefix key) → IfSome (S.objects store.old) (λ o. BuildLacks x o view.now last key) }
+    ensures named { (x : Option Extractor) (key : List ℕ) → IsExtractor E.may_name E.may_extract (option_copied extractor.entry) x → result ≡ Err (SlateError.EmptySegmentPrefix key) → IsSome x }
+    ensures refusals { IfErr result IsOfRebuilding }
+{
+    let (memory, replayed) = recover(alloc, store, &view.manifest, last)?;
+    let tabled = view.manifest.last_l0_seq;
+    let mark = reached(replayed, last);
+    let taken = taking_anew(alloc, tabled, memory, mark, replayed, extractor)?;
+    Ok(taken)
 }

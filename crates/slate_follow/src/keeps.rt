@@ -1,35 +1,31 @@
 // Polling a reader that keeps a checkpoint of its own.
-ghost use Rattle.std.specs.Prelude.{◌≡◌, ◌+◌, ◌-◌, ◌*◌, ◌≤◌, ℕ, [], Option, None, Some, Ok, Err, OnErr, IfOk, IfErr, IfSome, IsSome, false, true};
+ghost use Rattle.std.specs.Prelude.{◌≡◌, ◌+◌, ◌-◌, ◌*◌, ◌≤◌, ℕ, Option, None, Some, Ok, Err, IfOk, IfErr, IfSome, IsSome, false, true};
 ghost use Rattle.std.specs.Option.{option_copied};
-ghost use Rattle.slate_types.specs.Line.{AreNumberedFrom};
 ghost use Rattle.slate_store.specs.Calls.{WhereModelled};
 ghost use Rattle.slate_store.specs.declared.reader_modes.DbReaderMode.TheVariants.{ManagedCheckpoint};
 ghost use Rattle.slate_store.specs.Checkpoints.{found, to_refresh, to_write};
 ghost use Rattle.slate_store.specs.Refusals.{checkpoint_changes, planned};
-ghost use Rattle.slate_replay.specs.declared.replays.Replayed.TheVariants.{Whole};
-ghost use Rattle.slate_model.specs.Follower.{Follower, HasSegments, number};
+ghost use Rattle.slate_model.specs.Follower.{HasSegments, is_pinned, number};
 ghost use Rattle.slate_model.specs.Known.{CountsFaults, known};
 ghost use Rattle.slate_model.specs.Lease.{differs, is_due, leased, to_keep};
 ghost use Rattle.slate_model.specs.Managed.{IsOpenAt, Keeps, KeepsOrNot, PollsLeased, PutsPlanned, PutsRenewal, poll_result, unrefused};
 ghost use Rattle.slate_model.specs.Segments.{Extractor, IsExtractor};
 ghost use Rattle.slate_model.specs.Open.{replayed_logs};
 ghost use Rattle.slate_model.specs.Stores.{Stands, by_objects};
-ghost use Rattle.slate_follow.specs.Growing.{IsPushed, added_to, settled};
-ghost use Rattle.slate_follow.specs.Keeping.{CallsKeeping, CallsRound, HasTaken, IsNews, IsOfPolling, KeepLacks, LeftBy, MayLack, MovesBy, NewsLacks, PutsBy, ReplaceLacks, TakesLatest, answered, kept_answer, put_tried};
+ghost use Rattle.slate_follow.specs.Keeping.{CallsKeeping, CallsRound, HasTaken, IsOfPolling, KeepLacks, LeftBy, MayLack, MovesBy, PutsBy, ReplaceLacks, Replaces, TakesLatest, answered, kept_answer, put_tried};
 ghost use Rattle.slate_follow.specs.Answering.{IsOfPoll};
 ghost use Rattle.slate_follow.specs.Lagging.{readings};
-ghost use Rattle.slate_follow.specs.Rebuilding.{Truncates, answer_of, new_logs};
+ghost use Rattle.slate_follow.specs.Rebuilding.{TakesUnder, TakingLacks, Truncates, new_logs};
+ghost use Rattle.slate_follow.specs.Takings.{Gives, HasOwn};
 
 use crate::leases::{latest_of, put_next, with_new_lease, with_renewed_lease};
 use crate::polls::poll_error;
-use crate::rebuilds::{answer_of, last_taken, reached};
+use crate::takings::Taken;
 use crate::{FollowerState, PollAnswer};
-use bytes::Bytes;
 use slate_errors::{CloseFault, SlateError};
-use slate_model::Lease;
-use slate_replay::Replayed;
+use slate_model::{Lease, recorded};
 use slate_store::{COMMIT_TRIES, Store, VersionedManifest, find_checkpoint};
-use slate_types::{PrefixExtractor, Seq};
+use slate_types::PrefixExtractor;
 use std::alloc::Global;
 
 /// How a round of a poll kept the lease.
@@ -38,16 +34,6 @@ pub(crate) struct Kept {
     answer: PollAnswer,
     /// Whether the reader goes by another manifest since its view differed from the latest one.
     moved: bool,
-}
-
-/// How a reader took what log files have that it hadn't replayed yet. By the number of its last batch, its mark and, where these are
-/// others now, its segments before that it is as it was then.
-#[derive(Drop)]
-pub(crate) struct News {
-    number: u64,
-    mark: u64,
-    segments: Option<Seq<Bytes>>,
-    replayed: Replayed,
 }
 
 impl FollowerState {
@@ -149,7 +135,7 @@ impl FollowerState {
         ensures truncates { IfOk result (λ kept. IfSome (S.objects store.old) (λ o. Truncates o self.new kept.answer)) }
         ensures kind { IfErr result (IsOfPoll ManagedCheckpoint) }
         ensures costs { IfOk result (λ _. IfSome (S.objects store.old) (λ o. CallsRound o self.old lease.now moment (S.calls store.old) (S.calls store.new))) }
-        ensures calls { IfSome (S.objects store.old) (λ o. S.calls store.new ≤ S.calls store.old + (9 * readings self.old.lag (replayed_logs o) + 26)) }
+        ensures calls { IfSome (S.objects store.old) (λ o. S.calls store.new ≤ S.calls store.old + 8 * (readings self.old.lag (replayed_logs o) + 3)) }
         ensures moved { IfOk result (λ kept. IfSome (S.objects store.old) (MovesBy kept.moved self.old)) }
         ensures there { IfOk result (λ kept. kept.moved ≡ true → HasTaken self.new) }
         ensures segments { (x : Option Extractor) → IsExtractor E.may_name E.may_extract (option_copied extractor.entry) x → HasSegments x self.old → HasSegments x self.new }
@@ -187,8 +173,7 @@ impl FollowerState {
         ensures kind { IfErr result (IsOfPoll ManagedCheckpoint) }
         ensures free { IfOk (answered result) (λ _. IfSome (S.objects store.old) (λ o. Stands (checkpoint_changes (to_keep self.old.view lease.now moment) o) o → ⊥)) }
         ensures costs { IfOk (answered result) (λ _. IfSome (S.objects store.old) (λ o. CallsRound o self.old lease.now moment (S.calls store.old) (S.calls store.new))) }
-        ensures calls { IfSome (S.objects store.old) (λ o. S.calls store.new ≤ S.calls store.old + 2 * (readings self.old.lag (replayed_logs o) + 2)) }
-        ensures calls_again { result ≡ Ok None → IfSome (S.objects store.old) (λ o. S.calls store.new ≤ S.calls store.old + (readings self.old.lag (replayed_logs o) + 3)) }
+        ensures calls { IfSome (S.objects store.old) (λ o. S.calls store.new ≤ S.calls store.old + (readings self.old.lag (replayed_logs o) + 3)) }
         ensures moved { IfOk result (λ found. IfSome found (λ kept. IfSome (S.objects store.old) (MovesBy kept.moved self.old))) }
         ensures there { IfOk result (λ found. IfSome found (λ kept. kept.moved ≡ true → HasTaken self.new)) }
         ensures segments { (x : Option Extractor) → IsExtractor E.may_name E.may_extract (option_copied extractor.entry) x → HasSegments x self.old → HasSegments x self.new }
@@ -196,35 +181,53 @@ impl FollowerState {
     {
         let latest = latest_of(alloc, store)?;
         if differs(self.status.manifest(), &latest) {
-            return self.replace_lease(alloc, store, lease, &latest, extractor, moment, true);
+            return self.replace_lease(alloc, store, lease, &latest, extractor, moment);
         }
-        let news = self.news(alloc, store, &latest, extractor)?;
+        let taken = self.taking_new(alloc, store, &latest, extractor)?;
         if !lease.is_due(moment) {
-            let answer = self.take_news(alloc, &news);
+            let answer = self.install(None, taken);
             return Ok(Some(Kept {
                 answer,
                 moved: false,
             }));
         }
         if find_checkpoint(&latest, lease.id).is_none() {
-            return self.replace_missing(alloc, store, lease, &latest, news, extractor, moment);
+            return self.replace_missing(alloc, store, lease, &latest, taken, moment);
         }
-        let renewed = match self.renew_lease(alloc, store, lease, &latest, moment) {
-            Ok(renewed) => renewed,
-            Err(error) => {
-                self.drop_news(news);
-                return Err(error);
-            }
-        };
+        let renewed = self.renew_lease(alloc, store, lease, &latest, moment)?;
         if !renewed {
-            self.drop_news(news);
             return Ok(None);
         }
-        let answer = self.take_news(alloc, &news);
+        let answer = self.install(None, taken);
         Ok(Some(Kept {
             answer,
             moved: false,
         }))
+    }
+
+    /// What it takes under the latest manifest. A key without a segment is refused as a poll does.
+    fn taking_new<S: Store, E: PrefixExtractor>(
+        &self,
+        alloc: Global,
+        store: &mut S,
+        latest: &VersionedManifest,
+        extractor: Option<&E>,
+    ) -> Result<Taken, SlateError>
+        requires open_ { self.now.result ≡ None }
+        requires free { is_pinned self.now.mode ≡ false }
+        ensures faults { CountsFaults (S.faults store.old) (S.faults store.new) result }
+        ensures kept { S.objects store.new ≡ S.objects store.old }
+        ensures floor { IfOk result (λ taken. taken.line.floor ≡ latest.now.manifest.last_l0_seq) }
+        ensures takes { IfOk result (λ taken. IfSome (S.objects store.old) (λ o. Gives (TakesUnder o latest.now self.now) latest.now self.now taken)) }
+        ensures segments { (x : Option Extractor) → IsExtractor E.may_name E.may_extract (option_copied extractor.entry) x → HasSegments x self.now → IfOk result (HasOwn x) }
+        ensures lacks { (x : Option Extractor) → IsExtractor E.may_name E.may_extract (option_copied extractor.entry) x → result ≡ Err SlateError.InvalidDBState → IfSome (S.objects store.old) (λ o. TakingLacks x o latest.now self.now) }
+        ensures refusals { IfErr result IsOfPolling }
+        ensures calls { IfSome (S.objects store.old) (λ o. S.calls store.new ≤ S.calls store.old + (new_logs self.now latest.now o + 1)) }
+    {
+        match self.taking_under(alloc, store, latest, extractor) {
+            Ok(taken) => Ok(taken),
+            Err(error) => Err(poll_error(error)),
+        }
     }
 
     /// Puts a manifest after the latest one with a new checkpoint in place of its own, and goes by that manifest. It answers
@@ -237,7 +240,6 @@ impl FollowerState {
         latest: &VersionedManifest,
         extractor: Option<&E>,
         moment: i64,
-        moved: bool,
     ) -> Result<Option<Kept>, SlateError>
         requires open_ { self.old.result ≡ None }
         requires leased { self.old.lease ≡ Some lease.now }
@@ -252,7 +254,7 @@ impl FollowerState {
         ensures free { IfOk (answered result) (λ _. IfSome (S.objects store.old) (λ o. Stands (planned (leased lease.now.lifetime (to_write (Some lease.now.id) (Some lease.now.lifetime) moment latest.now))) o → ⊥)) }
         ensures calls { IfSome (S.objects store.old) (λ o. S.calls store.new ≤ S.calls store.old + (new_logs self.old latest.now o + 2)) }
         ensures calls_again { result ≡ Ok None → S.calls store.new ≤ S.calls store.old + 1 }
-        ensures moved { IfOk result (λ found. IfSome found (λ kept. kept.moved ≡ moved)) }
+        ensures moved { IfOk result (λ found. IfSome found (λ kept. kept.moved ≡ true)) }
         ensures there { IfOk result (λ found. IfSome found (λ _. HasTaken self.new)) }
         ensures segments { (x : Option Extractor) → IsExtractor E.may_name E.may_extract (option_copied extractor.entry) x → HasSegments x self.old → HasSegments x self.new }
         ensures lacks { (x : Option Extractor) → IsExtractor E.may_name E.may_extract (option_copied extractor.entry) x → result ≡ Err SlateError.InvalidDBState →
@@ -266,53 +268,51 @@ impl FollowerState {
         }
         self.lease = Some(taken);
         match self.follow(alloc, store, next, extractor) {
-            Ok(answer) => Ok(Some(Kept { answer, moved })),
+            Ok(answer) => Ok(Some(Kept {
+                answer,
+                moved: true,
+            })),
             Err(error) => Err(poll_error(error)),
         }
     }
 
-    /// Replaces a checkpoint that isn't there, once it took what log files have. Where that fails, it is as it was before that.
-    fn replace_missing<S: Store, E: PrefixExtractor>(
+    /// Puts a manifest after the latest one with a new checkpoint in place of one that isn't there, and goes by that manifest with what the
+    /// poll found before. It answers None where one is stored already under its id.
+    fn replace_missing<S: Store>(
         &mut self,
         alloc: Global,
         store: &mut S,
         lease: &Lease,
         latest: &VersionedManifest,
-        news: News,
-        extractor: Option<&E>,
+        taken: Taken,
         moment: i64,
     ) -> Result<Option<Kept>, SlateError>
-        requires open_ { self.old.result ≡ None }
         requires leased { self.old.lease ≡ Some lease.now }
-        requires low { self.old.line.floor ≤ news.number }
-        requires high { news.number ≤ number self.old }
+        requires floor { taken.line.floor ≡ latest.now.manifest.last_l0_seq }
         ensures faults { CountsFaults (S.faults store.old) (S.faults store.new) result }
         ensures puts { WhereModelled (λ o o'. PutsBy MayLack (leased lease.now.lifetime (to_write (Some lease.now.id) (Some lease.now.lifetime) moment latest.now)) self.old.lease o (answered result) self.new.lease o') (S.objects store.old) (S.objects store.new) }
-        ensures taken { IfOk (answered result) (λ answer. IfSome (S.objects store.new) (λ o'. TakesLatest (leased lease.now.lifetime (to_write (Some lease.now.id) (Some lease.now.lifetime) moment latest.now)) self.old o' self.new answer)) }
-        ensures answers { IfOk (answered result) (λ answer. IsOpenAt self.old.skips self.old.lag self.new answer) }
-        ensures failed { (before : Follower) → IsPushed before news.number news.mark news.segments self.old → IfErr (answered result) (λ _. self.new ≡ record before { lease = self.new.lease }) }
-        ensures again { result ≡ Ok None → (self.new.lease ≡ self.old.lease) × (S.objects store.new ≡ S.objects store.old) }
-        ensures truncates { IfOk (answered result) (λ answer. IfSome (S.objects store.old) (λ o. Truncates o self.new answer)) }
+        ensures becomes { IfOk (answered result) (λ answer. Replaces (leased lease.now.lifetime (to_write (Some lease.now.id) (Some lease.now.lifetime) moment latest.now)) taken self.old self.new answer) }
+        ensures failed { IfErr (answered result) (λ _. self.new ≡ record self.old { lease = self.new.lease }) }
+        ensures again { result ≡ Ok None → (self.new ≡ self.old) × (S.objects store.new ≡ S.objects store.old) }
         ensures kind { IfErr result (IsOfPoll ManagedCheckpoint) }
         ensures free { IfOk (answered result) (λ _. IfSome (S.objects store.old) (λ o. Stands (planned (leased lease.now.lifetime (to_write (Some lease.now.id) (Some lease.now.lifetime) moment latest.now))) o → ⊥)) }
-        ensures calls { IfSome (S.objects store.old) (λ o. S.calls store.new ≤ S.calls store.old + (new_logs self.old latest.now o + 2)) }
-        ensures calls_again { result ≡ Ok None → S.calls store.new ≤ S.calls store.old + 1 }
+        ensures calls { S.calls store.new ≤ S.calls store.old + 1 }
         ensures moved { IfOk result (λ found. IfSome found (λ kept. kept.moved ≡ false)) }
-        ensures segments { (x : Option Extractor) → IsExtractor E.may_name E.may_extract (option_copied extractor.entry) x → IfOk (answered result) (λ _. HasSegments x self.old → HasSegments x self.new) }
-        ensures lacks { (x : Option Extractor) → IsExtractor E.may_name E.may_extract (option_copied extractor.entry) x → result ≡ Err SlateError.InvalidDBState →
+        ensures lacks { (x : Option Extractor) → result ≡ Err SlateError.InvalidDBState →
             IfSome (S.objects store.old) (λ o. ReplaceLacks x (leased lease.now.lifetime (to_write (Some lease.now.id) (Some lease.now.lifetime) moment latest.now)) self.old o) }
     {
-        match self.replace_lease(alloc, store, lease, latest, extractor, moment, false) {
-            Ok(Some(kept)) => Ok(Some(kept)),
-            Ok(None) => {
-                self.drop_news(news);
-                Ok(None)
-            }
-            Err(error) => {
-                self.drop_news(news);
-                Err(error)
-            }
+        let replaced = Some(lease.id);
+        let (next, renewed) = with_new_lease(alloc, latest, replaced, lease.lifetime, moment)?;
+        let is_put = put_next(alloc, store, &next)?;
+        if !is_put {
+            return Ok(None);
         }
+        self.lease = Some(renewed);
+        let answer = self.install(Some(next), taken);
+        Ok(Some(Kept {
+            answer,
+            moved: false,
+        }))
     }
 
     /// Puts a manifest after the latest one where the lease of its checkpoint ends anew. It answers false where one is
@@ -343,82 +343,6 @@ impl FollowerState {
         self.lease = Some(taken);
         Ok(true)
     }
-
-    /// Takes what log files have that it hasn't replayed yet, under the latest manifest. It is told by `take_news` that it has them.
-    fn news<S: Store, E: PrefixExtractor>(
-        &mut self,
-        alloc: Global,
-        store: &mut S,
-        latest: &VersionedManifest,
-        extractor: Option<&E>,
-    ) -> Result<News, SlateError>
-        ensures faults { CountsFaults (S.faults store.old) (S.faults store.new) result }
-        ensures kept { S.objects store.new ≡ S.objects store.old }
-        ensures pushed { IfOk result (λ news. IsPushed self.old news.number news.mark news.segments self.new) }
-        ensures err { OnErr result (self.new ≡ self.old) }
-        ensures leased { IfOk result (λ _. self.new.lease ≡ self.old.lease) }
-        ensures news { IfOk result (λ news. IfSome (S.objects store.old) (λ o. IsNews o self.old latest.now self.old.skips (added_to self.old.line.batches self.new.line.batches) news.replayed self.new.mark)) }
-        ensures skipped { IfOk result (λ news. self.old.skips ≡ true → (added_to self.old.line.batches self.new.line.batches ≡ []) × (news.replayed ≡ Whole)) }
-        ensures numbered { IfOk result (λ _. AreNumberedFrom (number self.old) (added_to self.old.line.batches self.new.line.batches)) }
-        ensures segments { (x : Option Extractor) → IsExtractor E.may_name E.may_extract (option_copied extractor.entry) x → HasSegments x self.old → HasSegments x self.new }
-        ensures lacks { (x : Option Extractor) → IsExtractor E.may_name E.may_extract (option_copied extractor.entry) x → result ≡ Err SlateError.InvalidDBState → IfSome (S.objects store.old) (λ o. NewsLacks x self.old latest.now o) }
-        ensures segmented { (x : Option Extractor) → IsExtractor E.may_name E.may_extract (option_copied extractor.entry) x → result ≡ Err SlateError.InvalidDBState → IsSome x }
-        ensures refusals { IfErr result IsOfPolling }
-        ensures calls { IfSome (S.objects store.old) (λ o. differs self.old.view latest.now ≡ false → S.calls store.new ≤ S.calls store.old + (new_logs self.old latest.now o + 1)) }
-    {
-        let (number, mark) = (self.number(), self.mark);
-        if self.following.skips {
-            self.mark = latest.manifest.replay_after_wal_id;
-            return Ok(News {
-                number,
-                mark,
-                segments: None,
-                replayed: Replayed::Whole,
-            });
-        }
-        let from = mark.max(latest.manifest.replay_after_wal_id);
-        let last = last_taken(alloc, store, self.following.lag, number, from)?;
-        let tabled = self.status.manifest().manifest.last_l0_seq;
-        match self.extend(alloc, store, from, last, tabled, extractor) {
-            Ok((replayed, segments)) => {
-                self.mark = reached(replayed, last);
-                Ok(News {
-                    number,
-                    mark,
-                    segments: Some(segments),
-                    replayed,
-                })
-            }
-            Err(error) => Err(poll_error(error)),
-        }
-    }
-
-    /// Has what log files have, and stays at the manifest that it goes by.
-    fn take_news(&mut self, alloc: Global, news: &News) -> PollAnswer
-        ensures ok { self.new ≡ settled self.old.skips self.old }
-        ensures answer { result ≡ answer_of news.now.replayed (number self.new) }
-    {
-        if self.following.skips {
-            self.kept = Vec::new(alloc);
-            self.number = self.status.manifest().manifest.last_l0_seq;
-            self.segments = Seq::of(Vec::new(alloc));
-        }
-        answer_of(news.replayed, self.number())
-    }
-
-    /// Is as it was before it took what log files have.
-    fn drop_news(&mut self, news: News)
-        requires low { self.old.line.floor ≤ news.number }
-        requires high { news.number ≤ number self.old }
-        ensures back { (before : Follower) → IsPushed before news.number news.mark news.segments self.old → self.new ≡ record before { lease = self.old.lease } }
-        ensures leased { self.new.lease ≡ self.old.lease }
-    {
-        self.take_back(news.number);
-        self.mark = news.mark;
-        if let Some(segments) = news.segments {
-            self.segments = segments;
-        }
-    }
 }
 
 /// Whether a manifest has other tables than a view, another last number in them, or other segments.
@@ -436,20 +360,11 @@ pub(crate) fn differs(view: &VersionedManifest, latest: &VersionedManifest) -> b
 fn poll_result(error: &SlateError) -> Option<Result<(), CloseFault>>
     ensures { result ≡ poll_result error.now }
 {
-    let fault = match error {
-        SlateError::Fenced => CloseFault::Fenced,
-        SlateError::InvalidDBState => CloseFault::InvalidDBState,
-        SlateError::ObjectStoreError(fault) => CloseFault::ObjectStoreError(*fault),
-        SlateError::TransactionalObjectVersionExists => {
-            CloseFault::TransactionalObjectVersionExists
-        }
-        SlateError::LatestTransactionalObjectVersionMissing => {
-            CloseFault::LatestTransactionalObjectVersionMissing
-        }
+    match error {
+        SlateError::InvalidDBState => Some(Err(CloseFault::InvalidDBState)),
         SlateError::TransactionalObjectTimeout { tries } => {
-            CloseFault::TransactionalObjectTimeout { tries: *tries }
+            Some(Err(CloseFault::TransactionalObjectTimeout { tries: *tries }))
         }
-        _ => return None,
-    };
-    Some(Err(fault))
+        _ => recorded(error),
+    }
 }

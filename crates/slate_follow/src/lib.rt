@@ -21,6 +21,7 @@ mod segments;
 mod stages;
 mod states;
 mod tables;
+mod takings;
 mod tasks;
 
 pub use laws::begun_polls_follow_the_line;

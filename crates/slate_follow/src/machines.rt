@@ -20,6 +20,7 @@ use crate::{FollowerState, PollAnswer};
 use slate_errors::SlateError;
 use slate_model::{Lease, PollHistory};
 use slate_reads::IndexedTable;
+use slate_replay::Replayed;
 use slate_store::{Store, VersionedManifest};
 use slate_types::PrefixExtractor;
 use std::alloc::Global;
@@ -298,7 +299,11 @@ impl PollMachine {
         if turn == Turn::Goes {
             return Ok(None);
         }
-        if let Err(error) = state.arrive(alloc, self, extractor) {
+        let replayed = match turn {
+            Turn::Breaks => Replayed::Truncated(self.mark.saturating_add(1)),
+            _ => Replayed::Whole,
+        };
+        if let Err(error) = state.arrive(alloc, self, replayed, extractor) {
             return Err(poll_error(error));
         }
         let at = state.number();

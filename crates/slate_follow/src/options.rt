@@ -8,9 +8,9 @@ pub struct DbReaderOptions {
     pub checkpoint_lifetime_ms: u64,
     /// Whether the reader sees the tables alone, and reads no log file.
     pub skip_wal_replay: bool,
-    /// A poll adds what it finds to the newest table in memory, unless that has at least so many bytes of keys and values:
-    /// then it begins another. So a table may have as many more as one poll finds, and what an opening finds is one
-    /// table. At 0 each poll that finds a batch begins a table.
+    /// What a poll finds is a table in memory, with which it joins the newest ones before it that have fewer bytes of keys and
+    /// values than this, and at most twice those of what comes after them. So there are few tables with fewer bytes, a table may have
+    /// as many more as one poll finds, and what an opening finds is one table. At 0 each poll that finds a batch begins a table.
     pub max_memtable_bytes: u64,
     /// By how many numbers a poll may leave the reader behind what is stored. At 0, the default, a poll reads all log files
     /// that are new. Else it looks at the newest batch that log files have first, and reads them only where that would leave the

@@ -215,14 +215,14 @@ impl FollowerState {
     ///
     /// Where it answers Ok it reads the latest manifest, asks for the last log file, and reads the log files above both the
     /// replay mark and its own mark, or all above the replay mark where its batches don't reach the manifest's tables. A managed
-    /// one besides puts a manifest in the cases above, and where its checkpoint was missing asks and reads once more what is left;
-    /// it puts two where it renews a lease at once.
+    /// one besides puts a manifest in the cases above, and two where it renews a lease at once.
     /// Whatever it answers, it calls the store at most nine times for each log file above the replay mark, and 27 times besides;
     /// a closed reader and one of a checkpoint not at all.
     ///
     /// Time linear in the operations that it reads, for each new key a logarithm of the keys, in the batches that it drops, and in
-    /// the tables in memory and the prefixes of their batches. What it reads goes onto its newest table in memory, unless that
-    /// has `max_memtable_bytes` or more, and is taken back where it fails, which takes as long again.
+    /// the tables in memory and the prefixes of their batches. What it reads is a table in memory, with which it joins small ones
+    /// before it, so that an operation is indexed again only as its table grows by half; so are those of a table of which it drops a
+    /// part.
     ///
     /// # What stands after
     ///

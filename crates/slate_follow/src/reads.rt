@@ -1,17 +1,22 @@
 // Reading a key from the tables of a reader's view and from its batches in memory.
-ghost use Rattle.std.specs.Prelude.{◌≡◌, ◌+◌, ◌≤◌, [], None, Some, Option, length};
+ghost use Rattle.std.specs.Prelude.{◌≡◌, ◌+◌, ◌≤◌, [], None, Some, Option, Err, IfOk, IfErr, IfSome, length};
 ghost use Rattle.std.specs.Option.{option_copied};
+ghost use Rattle.slate_types.specs.declared.store_errors.StoreFault.TheVariants.{NotFound};
 ghost use Rattle.slate_types.specs.Operator.{Merge};
 ghost use Rattle.slate_reads.specs.Read.{IsOperator, read_at};
 ghost use Rattle.slate_model.specs.Follower.{number};
-ghost use Rattle.slate_model.specs.Known.{known};
+ghost use Rattle.slate_model.specs.Known.{known, FaultsRise};
 ghost use Rattle.slate_model.specs.Object.{Follower};
 ghost use Rattle.slate_model.specs.Read.{Reads, ReadsByAny};
 ghost use Rattle.slate_model.specs.Stores.{kept_rows};
+ghost use Rattle.slate_model.specs.Tables.{AreStored};
+ghost use Rattle.slate_replay.specs.Tables.{IsOfTables};
+ghost use Rattle.slate_follow.specs.Joined.{joined};
 
 use crate::FollowerState;
+use crate::tables::share;
 use slate_errors::SlateError;
-use slate_reads::read_indexed;
+use slate_reads::{Table, read_indexed};
 use slate_replay::read_tables;
 use slate_store::Store;
 use slate_types::{KeyValue, MergeOperator};
@@ -48,9 +53,28 @@ impl FollowerState {
         if let Some(result) = self.closed() {
             return Err(SlateError::of_closed(result));
         }
-        let stored = read_tables(alloc, store, self.tables())?;
-        let memory = self.kept.as_slice();
+        let tables = self.all_tables(alloc, store)?;
         let bound = Some(self.number());
-        Ok(read_indexed(alloc, &[], stored.as_slice(), memory, bound, key, operator)?)
+        Ok(read_indexed(alloc, &[], tables.as_slice(), &[], bound, key, operator)?)
+    }
+
+    /// Its stored tables and then those in memory, which are shared.
+    pub(crate) fn all_tables<S: Store>(
+        &self,
+        alloc: Global,
+        store: &mut S,
+    ) -> Result<Vec<Table>, SlateError>
+        ensures faults { FaultsRise (S.faults store.old) (S.faults store.new) result }
+        ensures calls { S.calls store.new ≤ S.calls store.old + length self.now.view.manifest.tables }
+        ensures kept { S.objects store.new ≡ S.objects store.old }
+        ensures rows { IfOk result (λ tables. kept_rows (S.objects store.old) (Follower self.now) (joined tables.items)) }
+        ensures missing { result ≡ Err (SlateError.ObjectStoreError NotFound) → IfSome (S.objects store.old) (λ o. AreStored o self.now.view.manifest.tables → ⊥) }
+        ensures refused { IfErr result IsOfTables }
+        ensures untouched { self.now.view.manifest.tables ≡ [] → store.new ≡ store.old }
+        ensures some { self.now.view.manifest.tables ≡ [] → result ≡ Err (SlateError.ObjectStoreError NotFound) → ⊥ }
+    {
+        let mut tables = read_tables(alloc, store, self.tables())?;
+        share(&mut tables, self.kept.as_slice())?;
+        Ok(tables)
     }
 }

@@ -11,7 +11,6 @@ ghost use Rattle.slate_follow.specs.Scanned.{BeginsFrontOf, BeginsScanOf};
 
 use crate::FollowerState;
 use slate_errors::SlateError;
-use slate_replay::read_tables;
 use slate_rows::{DbIterator, scan_first, scan_indexed};
 use slate_store::Store;
 use slate_types::{ByteRange, IterationOrder, MergeOperator};
@@ -52,18 +51,10 @@ impl FollowerState {
         if let Some(result) = self.closed() {
             return Err(SlateError::of_closed(result));
         }
-        let stored = read_tables(alloc, store, self.tables())?;
-        let memory = self.kept.as_slice();
+        let tables = self.all_tables(alloc, store)?;
         let bound = Some(self.number());
-        Ok(scan_indexed(
-            alloc,
-            stored.as_slice(),
-            memory,
-            bound,
-            range,
-            order,
-            operator,
-        )?)
+        let tables = tables.as_slice();
+        Ok(scan_indexed(alloc, tables, &[], bound, range, order, operator)?)
     }
 
     /// The first rows that `scan` gives, up to `limit`, and the fault that ends them where it comes before so many. A key that
@@ -99,18 +90,9 @@ impl FollowerState {
         if let Some(result) = self.closed() {
             return Err(SlateError::of_closed(result));
         }
-        let stored = read_tables(alloc, store, self.tables())?;
-        let memory = self.kept.as_slice();
+        let tables = self.all_tables(alloc, store)?;
         let bound = Some(self.number());
-        Ok(scan_first(
-            alloc,
-            stored.as_slice(),
-            memory,
-            bound,
-            range,
-            order,
-            limit,
-            operator,
-        )?)
+        let tables = tables.as_slice();
+        Ok(scan_first(alloc, tables, &[], bound, range, order, limit, operator)?)
     }
 }

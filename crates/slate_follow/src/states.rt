@@ -1,5 +1,5 @@
 // What a reader that follows a database keeps.
-ghost use Rattle.std.specs.Prelude.{◌≡◌, ◌≤◌, [], is_some, length, None, IfOk, OnOk, OnErr};
+ghost use Rattle.std.specs.Prelude.{◌≡◌, ◌≤◌, [], is_some, length, None, IfOk};
 ghost use Rattle.slate_model.specs.Follower.{is_managed, is_pinned, number};
 ghost use Rattle.slate_model.specs.Status.{follower_status};
 
@@ -9,7 +9,7 @@ use crate::tasks::start_tasks;
 use bytes::Bytes;
 use slate_errors::CloseFault;
 use slate_model::Lease;
-use slate_reads::IndexedTable;
+use slate_reads::Table;
 use slate_status::{DbStatus, StatusRecord, copies};
 use slate_store::{DbReaderMode, TableId};
 use slate_tasks::Tasks;
@@ -34,8 +34,8 @@ pub struct FollowerState {
     pub(crate) following: Following,
     /// With how many bytes a table in memory takes no more batches.
     pub(crate) limit: u64,
-    /// Its batches, joined: tables, oldest first.
-    pub(crate) kept: Vec<IndexedTable>,
+    /// Its batches, joined: tables, oldest first, which states that it published share.
+    pub(crate) kept: Vec<Table>,
     /// The number of the last batch that it sees.
     pub(crate) number: u64,
     /// The prefixes of its batches, rising, each once.
@@ -104,23 +104,6 @@ impl FollowerState {
             status: StatusRecord::new(alloc, number, rebuilt.view),
             tasks,
         })
-    }
-
-    /// Takes what was built in its mode in place of what it saw. A reader that is open becomes what was built, under its
-    /// lease.
-    pub(crate) fn take(&mut self, alloc: Global, rebuilt: Rebuilt) -> Result<(), NoMemory>
-        requires mode { rebuilt.mode ≡ self.old.mode }
-        ensures ok { OnOk result (self.old.result ≡ None → self.new ≡ record rebuilt { lease = self.old.lease }) }
-        ensures err { OnErr result (self.new ≡ self.old) }
-    {
-        let number = rebuilt.number();
-        self.kept = list_of(alloc, rebuilt.memory)?;
-        self.number = number;
-        self.following = rebuilt.following;
-        self.segments = rebuilt.segments;
-        self.mark = rebuilt.mark;
-        self.status.report_view(number, rebuilt.view);
-        Ok(())
     }
 
     /// The ids of the tables of the manifest that it goes by.

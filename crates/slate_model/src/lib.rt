@@ -11,5 +11,5 @@ mod snapshots;
 pub use answers::{PollAnswer, Written};
 pub use leases::Lease;
 pub use polls::{FirstRead, PollHistory};
-pub use refusals::error_of_refusal;
+pub use refusals::{error_of_refusal, recorded};
 pub use snapshots::HandleSnapshot;

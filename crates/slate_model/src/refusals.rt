@@ -1,8 +1,9 @@
-// The errors that refusals of a store's calls are answered with.
+// The errors that refusals of a store's calls are answered with, and what errors record.
 ghost use Rattle.std.specs.Prelude.{◌≡◌};
+ghost use Rattle.slate_model.specs.Flush.{recorded};
 ghost use Rattle.slate_model.specs.Refusal.{error_of_refusal};
 
-use slate_errors::SlateError;
+use slate_errors::{CloseFault, SlateError};
 use slate_store::StoreRefusal;
 
 /// The error that a refusal of a store's call is answered with: that of its name.
@@ -25,4 +26,23 @@ pub fn error_of_refusal(refusal: StoreRefusal) -> SlateError
         }
         StoreRefusal::NoMemory => SlateError::NoMemory,
     }
+}
+
+/// What an error of a flush records as the result of its handle: of a fence, a fault of the store, an object that is there already and
+/// a missing manifest that fault; of each other error nothing. A leased reader's poll records two more.
+pub fn recorded(error: &SlateError) -> Option<Result<(), CloseFault>>
+    ensures { result ≡ recorded error.now }
+{
+    let fault = match error {
+        SlateError::Fenced => CloseFault::Fenced,
+        SlateError::ObjectStoreError(fault) => CloseFault::ObjectStoreError(*fault),
+        SlateError::TransactionalObjectVersionExists => {
+            CloseFault::TransactionalObjectVersionExists
+        }
+        SlateError::LatestTransactionalObjectVersionMissing => {
+            CloseFault::LatestTransactionalObjectVersionMissing
+        }
+        _ => return None,
+    };
+    Some(Err(fault))
 }

@@ -1,5 +1,5 @@
 -- What the calls of a store that make several calls of it answer and leave.
-use Rattle.std.specs.Prelude.{◌≡◌, ◌≢◌, ℕ, ◌≤◌, ◌+◌, ◌⊎◌, min, Bool, true, false, List, [], ◌∷◌, length, Option, Some, None, Result, Ok, Err, IfOk, IfErr}
+use Rattle.std.specs.Prelude.{◌≡◌, ◌≢◌, ℕ, ◌≤◌, ◌+◌, ◌⊎◌, min, Bool, true, false, List, [], ◌∷◌, length, Option, Some, None, Result, Ok, Err, IfOk, IfErr, IfSome}
 use Rattle.slate_types.specs.Counts.{HasRisen, count_end}
 use Rattle.slate_types.specs.declared.store_errors.StoreError.{StoreError}
 use Rattle.slate_types.specs.declared.store_errors.StoreError.TheVariants as errors
@@ -7,7 +7,7 @@ use Rattle.slate_types.specs.declared.store_errors.StoreFault.TheVariants as fau
 use Rattle.slate_store.specs.declared.objects.VersionedManifest.{VersionedManifest}
 use Rattle.slate_store.specs.declared.refusals.StoreRefusal.{StoreRefusal}
 use Rattle.slate_store.specs.declared.refusals.StoreRefusal.TheVariants.{CheckpointMissing, LatestTransactionalObjectVersionMissing, Fenced, InvalidDBState, ObjectStoreError, TransactionalObjectVersionExists, TransactionalObjectTimeout, NoMemory}
-use Rattle.slate_store.specs.Calls.{KeepsFaults}
+use Rattle.slate_store.specs.Calls.{KeepsFaults, WhereModelled}
 use Rattle.slate_store.specs.Changes.{PartMadeBy, after_part}
 use Rattle.slate_store.specs.Checkpoints.{Plan}
 use Rattle.slate_store.specs.Content.{IsSound, KeepsPins, content}
@@ -202,3 +202,14 @@ IsOfSweep refusal = IsOfToSweep refusal
 abbrev pub IsOfCompaction : StoreRefusal → Type 0
 IsOfCompaction Fenced = Unit {0}
 IsOfCompaction refusal = IsOfSweep refusal
+
+-- What a call commits that changes the checkpoints of the latest manifest by a plan, and asks for the one with this id, or for none:
+-- by the objects, faults and calls of the store before and after.
+pub record Commits {A : Type 0} (plan : VersionedManifest → Plan A) (asked : Option (List ℕ)) (objects objects' : Option Objects)
+    (failed failed' calls calls' : ℕ) (result : Result A StoreRefusal) : Type 0 where
+  pub follows : WhereModelled (λ o o'. (made : ℕ) × FollowsPlan plan o result made o') objects objects'
+  pub sound : WhereModelled KeepsContent objects objects'
+  pub faults : CountsFaults failed failed' result
+  pub tries : CountsTries calls calls' result
+  pub decided : IfSome objects (λ o. IsDecided result → calls' ≤ calls + 2)
+  pub kind : IfErr result (IsOfCommit asked)

@@ -4,7 +4,7 @@ ghost use Rattle.slate_types.specs.Counts.{one_more};
 ghost use Rattle.slate_store.specs.Calls.{WhereModelled};
 ghost use Rattle.slate_store.specs.Checkpoints.{to_delete, to_refresh, to_write};
 ghost use Rattle.slate_store.specs.Objects.{PutManifest, is_present};
-ghost use Rattle.slate_store.specs.Refusals.{CountsFaults, CountsTries, FindsLatest, FollowsPlan, IsDecided, IsOfCommit, IsOfLatest, IsOfStore, IsOfTry, IsTaken, KeepsContent, PutsManifest, PutsNext, Tries, tried};
+ghost use Rattle.slate_store.specs.Refusals.{Commits, CountsFaults, CountsTries, FindsLatest, FollowsPlan, IsDecided, IsOfCommit, IsOfLatest, IsOfStore, IsOfTry, IsTaken, PutsManifest, PutsNext, Tries, tried};
 
 use crate::{
     Checkpoint, Store, StoreRefusal, VersionedManifest, find_checkpoint, next_with_checkpoint,
@@ -33,12 +33,7 @@ pub fn write_checkpoint<S: Store>(
     lifetime: Option<u64>,
     moment: i64,
 ) -> Result<Checkpoint, StoreRefusal>
-    ensures follows { WhereModelled (λ o o'. (made : ℕ) × FollowsPlan (to_write None lifetime moment) o result made o') (S.objects store.old) (S.objects store.new) }
-    ensures sound { WhereModelled KeepsContent (S.objects store.old) (S.objects store.new) }
-    ensures faults { CountsFaults (S.faults store.old) (S.faults store.new) result }
-    ensures tries { CountsTries (S.calls store.old) (S.calls store.new) result }
-    ensures decided { IfSome (S.objects store.old) (λ o. IsDecided result → S.calls store.new ≤ S.calls store.old + 2) }
-    ensures kind { IfErr result (IsOfCommit None) }
+    ensures { Commits (to_write None lifetime moment) None (S.objects store.old) (S.objects store.new) (S.faults store.old) (S.faults store.new) (S.calls store.old) (S.calls store.new) result }
 {
     let creation = Creation {
         replaced: None,
@@ -57,12 +52,7 @@ pub fn replace_checkpoint<S: Store>(
     lifetime: u64,
     moment: i64,
 ) -> Result<Checkpoint, StoreRefusal>
-    ensures follows { WhereModelled (λ o o'. (made : ℕ) × FollowsPlan (to_write (Some old) (Some lifetime) moment) o result made o') (S.objects store.old) (S.objects store.new) }
-    ensures sound { WhereModelled KeepsContent (S.objects store.old) (S.objects store.new) }
-    ensures faults { CountsFaults (S.faults store.old) (S.faults store.new) result }
-    ensures tries { CountsTries (S.calls store.old) (S.calls store.new) result }
-    ensures decided { IfSome (S.objects store.old) (λ o. IsDecided result → S.calls store.new ≤ S.calls store.old + 2) }
-    ensures kind { IfErr result (IsOfCommit None) }
+    ensures { Commits (to_write (Some old) (Some lifetime) moment) None (S.objects store.old) (S.objects store.new) (S.faults store.old) (S.faults store.new) (S.calls store.old) (S.calls store.new) result }
 {
     let creation = Creation {
         replaced: Some(old),
@@ -84,12 +74,7 @@ pub fn refresh_checkpoint<S: Store>(
     lifetime: u64,
     moment: i64,
 ) -> Result<Checkpoint, StoreRefusal>
-    ensures follows { WhereModelled (λ o o'. (made : ℕ) × FollowsPlan (to_refresh id lifetime moment) o result made o') (S.objects store.old) (S.objects store.new) }
-    ensures sound { WhereModelled KeepsContent (S.objects store.old) (S.objects store.new) }
-    ensures faults { CountsFaults (S.faults store.old) (S.faults store.new) result }
-    ensures tries { CountsTries (S.calls store.old) (S.calls store.new) result }
-    ensures decided { IfSome (S.objects store.old) (λ o. IsDecided result → S.calls store.new ≤ S.calls store.old + 2) }
-    ensures kind { IfErr result (IsOfCommit (Some id)) }
+    ensures { Commits (to_refresh id lifetime moment) (Some id) (S.objects store.old) (S.objects store.new) (S.faults store.old) (S.faults store.new) (S.calls store.old) (S.calls store.new) result }
 {
     let renewal = Renewal {
         id,
@@ -106,12 +91,7 @@ pub fn delete_checkpoint<S: Store>(
     store: &mut S,
     id: Uuid,
 ) -> Result<(), StoreRefusal>
-    ensures follows { WhereModelled (λ o o'. (made : ℕ) × FollowsPlan (to_delete id) o result made o') (S.objects store.old) (S.objects store.new) }
-    ensures sound { WhereModelled KeepsContent (S.objects store.old) (S.objects store.new) }
-    ensures faults { CountsFaults (S.faults store.old) (S.faults store.new) result }
-    ensures tries { CountsTries (S.calls store.old) (S.calls store.new) result }
-    ensures decided { IfSome (S.objects store.old) (λ o. IsDecided result → S.calls store.new ≤ S.calls store.old + 2) }
-    ensures kind { IfErr result (IsOfCommit None) }
+    ensures { Commits (to_delete id) None (S.objects store.old) (S.objects store.new) (S.faults store.old) (S.faults store.new) (S.calls store.old) (S.calls store.new) result }
 {
     commit(alloc, store, &Deletion { id })
 }

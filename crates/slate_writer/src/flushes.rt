@@ -10,7 +10,8 @@ ghost use Rattle.slate_writer.specs.Kinds.{IsOfFlush, IsOfLooking};
 ghost use Rattle.slate_writer.specs.Puts.{IsDecided, MakesPart, StoresBy, calls_of, flush_calls, log_calls};
 
 use crate::WriterState;
-use slate_errors::{CloseFault, SlateError};
+use slate_errors::SlateError;
+use slate_model::recorded;
 use slate_store::{Store, VersionedManifest};
 use slate_types::{Batch, FlushType};
 use std::alloc::Global;
@@ -210,22 +211,4 @@ fn append_log<S: Store>(
         return Err(SlateError::InvalidDBState);
     };
     Ok(store.put_log(alloc, id, batches)?)
-}
-
-/// What an error of a flush records.
-fn recorded(error: &SlateError) -> Option<Result<(), CloseFault>>
-    ensures { result ≡ recorded error.now }
-{
-    let fault = match error {
-        SlateError::Fenced => CloseFault::Fenced,
-        SlateError::ObjectStoreError(fault) => CloseFault::ObjectStoreError(*fault),
-        SlateError::TransactionalObjectVersionExists => {
-            CloseFault::TransactionalObjectVersionExists
-        }
-        SlateError::LatestTransactionalObjectVersionMissing => {
-            CloseFault::LatestTransactionalObjectVersionMissing
-        }
-        _ => return None,
-    };
-    Some(Err(fault))
 }

@@ -50,7 +50,17 @@ impl Transaction {
         ensures closed { (writer.now.result ≡ None → ⊥) → store.new ≡ store.old }
         ensures untouched { writer.now.view.manifest.tables ≡ [] → store.new ≡ store.old }
     {
-        let found = self.look_up(alloc, writer, store, key, options, operator)?;
+        if let Some(result) = writer.closed() {
+            return Err(SlateError::of_closed(result));
+        }
+        let stored = writer.read_tables(alloc, store)?;
+        let asked = Bytes::copy_from_slice(alloc, key).map_err(NoMemory::from)?;
+        let bound = self.bound(writer, options.durability_filter, options.dirty);
+        let memory = writer.memory.to_read(alloc)?;
+        let memory = std::slice::from_ref(memory.as_indexed());
+        let stored = stored.as_slice();
+        let own = &self.own;
+        let found = own.read(alloc, stored, memory, bound, &asked, operator)?;
         self.track_got(alloc, key)?;
         Ok(found)
     }
@@ -64,38 +74,6 @@ impl Transaction {
             IsolationLevel::Snapshot => Ok(()),
             IsolationLevel::SerializableSnapshot => self.read.insert(alloc, key),
         }
-    }
-
-    /// What it reads of a key.
-    fn look_up<S: Store, M: MergeOperator>(
-        &self,
-        alloc: Global,
-        writer: &WriterState,
-        store: &mut S,
-        key: &[u8],
-        options: &ReadOptions,
-        operator: Option<&M>,
-    ) -> Result<Option<KeyValue>, SlateError>
-        ensures read { (merge : Option Merge) → IsOperator M.may_answer (option_copied operator.entry) merge →
-            Reads writer.now.result writer.now.view.manifest.tables (kept_rows (S.objects store.old) (Handle writer.now))
-            (λ rows answer. answer ≡ read_at merge (seen_by self.now (start_bound self.now writer.now options.now.durability_filter options.now.dirty) rows) None key.now)
-            (known S.objects S.faults store.old) result (known S.objects S.faults store.new) }
-        ensures by_any { ReadsByAny writer.now.result writer.now.view.manifest.tables (known S.objects S.faults store.old) result (known S.objects S.faults store.new) }
-        ensures count { S.faults store.old ≤ S.faults store.new }
-        ensures calls { S.calls store.new ≤ S.calls store.old + length writer.now.view.manifest.tables }
-        ensures closed { (writer.now.result ≡ None → ⊥) → store.new ≡ store.old }
-        ensures untouched { writer.now.view.manifest.tables ≡ [] → store.new ≡ store.old }
-    {
-        if let Some(result) = writer.closed() {
-            return Err(SlateError::of_closed(result));
-        }
-        let stored = writer.read_tables(alloc, store)?;
-        let key = Bytes::copy_from_slice(alloc, key).map_err(NoMemory::from)?;
-        let bound = self.bound(writer, options.durability_filter, options.dirty);
-        let memory = writer.memory.to_read(alloc)?;
-        let memory = std::slice::from_ref(memory.as_indexed());
-        let stored = stored.as_slice();
-        Ok(self.own.read(alloc, stored, memory, bound, &key, operator)?)
     }
 
     /// Up to which number it reads the batches of a handle.
@@ -137,7 +115,16 @@ impl Transaction {
         ensures closed { (writer.now.result ≡ None → ⊥) → store.new ≡ store.old }
         ensures untouched { writer.now.view.manifest.tables ≡ [] → store.new ≡ store.old }
     {
-        let found = self.look_through(alloc, writer, store, range, options, operator)?;
+        if let Some(result) = writer.closed() {
+            return Err(SlateError::of_closed(result));
+        }
+        let stored = writer.read_tables(alloc, store)?;
+        let bound = self.bound(writer, options.durability_filter, options.dirty);
+        let memory = writer.memory.to_read(alloc)?;
+        let memory = std::slice::from_ref(memory.as_indexed());
+        let (stored, order) = (stored.as_slice(), options.order);
+        let own = &self.own;
+        let found = own.scan(alloc, stored, memory, bound, range, order, operator)?;
         self.track_scanned(range)?;
         Ok(found)
     }
@@ -152,40 +139,5 @@ impl Transaction {
             IsolationLevel::SerializableSnapshot => self.scanned.push(range.clone()?)?,
         }
         Ok(())
-    }
-
-    /// What it reads of a range.
-    fn look_through<S: Store, M: MergeOperator>(
-        &self,
-        alloc: Global,
-        writer: &WriterState,
-        store: &mut S,
-        range: &ByteRange,
-        options: &ScanOptions,
-        operator: Option<&M>,
-    ) -> Result<DbIterator, SlateError>
-        ensures scan { (merge : Option Merge) → IsOperator M.may_answer (option_copied operator.entry) merge →
-            Reads writer.now.result writer.now.view.manifest.tables (kept_rows (S.objects store.old) (Handle writer.now))
-            (Gives (λ rows it. BeginsScan merge (seen_by self.now (start_bound self.now writer.now options.now.durability_filter options.now.dirty) rows) None range.now options.now.order it))
-            (known S.objects S.faults store.old) result (known S.objects S.faults store.new) }
-        ensures by_any { ReadsByAny writer.now.result writer.now.view.manifest.tables (known S.objects S.faults store.old) result (known S.objects S.faults store.new) }
-        ensures count { S.faults store.old ≤ S.faults store.new }
-        ensures calls { S.calls store.new ≤ S.calls store.old + length writer.now.view.manifest.tables }
-        ensures closed { (writer.now.result ≡ None → ⊥) → store.new ≡ store.old }
-        ensures untouched { writer.now.view.manifest.tables ≡ [] → store.new ≡ store.old }
-    {
-        if let Some(result) = writer.closed() {
-            return Err(SlateError::of_closed(result));
-        }
-        let stored = writer.read_tables(alloc, store)?;
-        let bound = self.bound(writer, options.durability_filter, options.dirty);
-        let memory = writer.memory.to_read(alloc)?;
-        let memory = std::slice::from_ref(memory.as_indexed());
-        let stored = stored.as_slice();
-        let order = options.order;
-        Ok(
-            self.own
-                .scan(alloc, stored, memory, bound, range, order, operator)?,
-        )
     }
 }

@@ -1,35 +1,28 @@
-use Rattle.std.proofs.Common.{◌≡◌, ◌-◌, ◌++◌, length, get_or, ap, arith, subst, sym, ◌∙◌}
-use Rattle.slate_reads.specs.Index.{AreRising}
+use Rattle.std.proofs.Common.{◌≡◌, ◌+◌, ◌-◌, ◌++◌, length, take, drop, ap, arith, subst, sym, ◌∙◌}
+use Rattle.std.proofs.lemmas.List.{length-drop, take_all}
+use Rattle.slate_types.specs.Line.{AreNumberedFrom}
+use Rattle.slate_model.proofs.Reopened.{numbered_rest}
 use Rattle.slate_follow.specs.Joined.{joined}
-use Rattle.slate_follow.proofs.Arriving.{newest-rises, on-ok, table-added}
-use Rattle.slate_follow.proofs.Joining.{earlier, newest-now, newest-was}
+use Rattle.slate_follow.proofs.Joining.{joined-last, on-ok}
 use Rattle.slate_follow.proofs.tables.add_table.Goals as goal
 
-pub add_copies-added-requires : goal.add_copies-added-requires
-add_copies-added-requires c =
-    let ts = c.begin_table.new.tables.items in
-    let t = c.index_mut.result.now in
-    let count : c.len-newest.result ≡ length ts = omega (arith, c.begin_table.new.tables.ok.0) in
-    let k = c.len-newest.result - 1 in
-    let at : k ≡ length ts - 1 = ap (λ m. m - 1) count in
-    let some = c.in_ok-begin_table.ensures.some in
-    let is : t ≡ get_or ts k t = c.index_mut.ensures.value in
-    let front = earlier ts k t t some at is in
-    let was : joined c.args.tables.now.items ≡ front ++ t = sym c.in_ok-begin_table.ensures.same ∙ newest-was ts k t t some at is in
-    let all = newest-rises c.requires.0 (joined c.args.tables.now.items) front t c.args.table was c.requires.1 in
-    subst (λ bs. AreRising (t ++ bs)) (sym c.batches.ensures.value) all
+pub join-requires : goal.join-requires
+join-requires c =
+    let items = c.args.tables.now.items in
+    let ts = c.deref.result.now in
+    let k = c.first_joined-first.result in
+    let short = length-drop k ts in
+    let last : take (length ts - k) (drop k ts) ≡ drop k items = take_all (length ts - k) (drop k ts) (omega (arith, short)) ∙ ap (drop k) c.deref.ensures.value in
+    let n = c.requires.0 + length (joined (take k items)) in
+    let rest = numbered_rest c.requires.0 (joined (take k items)) (joined (drop k items) ++ c.args.table) (subst (AreNumberedFrom c.requires.0) (sym (joined-last items k c.args.table)) c.requires.1) in
+    (n, subst (λ xs. AreNumberedFrom n (joined xs ++ c.args.table)) (sym last) rest)
 
 pub returns-clause-ok : goal.returns-clause-ok
 returns-clause-ok c =
-    let ts = c.begin_table.new.tables.items in
-    let t = c.index_mut.result.now in
-    let count : c.len-newest.result ≡ length ts = omega (arith, c.begin_table.new.tables.ok.0) in
-    let k = c.len-newest.result - 1 in
-    let at : k ≡ length ts - 1 = ap (λ m. m - 1) count in
-    let some = c.in_ok-begin_table.ensures.some in
-    let is : t ≡ get_or ts k t = c.index_mut.ensures.value in
-    let front = earlier ts k t t some at is in
-    let was : joined c.args.tables.now.items ≡ front ++ t = sym c.in_ok-begin_table.ensures.same ∙ newest-was ts k t t some at is in
-    let new = c.add_copies-added.new.table in
-    let now : joined c.drop_empty.new.tables.items ≡ front ++ new = c.drop_empty.ensures.same ∙ newest-now ts k t new some at is in
-    on-ok c.add_copies-added.result (λ added. table-added (joined c.args.tables.now.items) (joined c.drop_empty.new.tables.items) front t new c.args.table was now (added ∙ ap (λ bs. t ++ bs) c.batches.ensures.value)) c.add_copies-added.ensures.ok
+    let items = c.args.tables.now.items in
+    let ts = c.deref.result.now in
+    let k = c.first_joined-first.result in
+    let short = length-drop k ts in
+    let last : take (length ts - k) (drop k ts) ≡ drop k items = take_all (length ts - k) (drop k ts) (omega (arith, short)) ∙ ap (drop k) c.deref.ensures.value in
+    let whole : c.in_ok-shared-2.field-0 ≡ joined (drop k items) ++ c.args.table = c.in_ok-shared-2.ensures ∙ (c.in_ok-whole.ensures ∙ ap (λ xs. joined xs ++ c.args.table) last) in
+    on-ok c.push_table-2.result (λ same. same ∙ (ap (λ xs. joined xs ++ c.in_ok-shared-2.field-0) c.truncate.ensures.items ∙ (ap (λ bs. joined (take k items) ++ bs) whole ∙ joined-last items k c.args.table))) c.push_table-2.ensures.same

@@ -1,12 +1,21 @@
 use Rattle.std.proofs.Common.{ℕ, rules}
 use Rattle.slate_store.specs.Calls.{WhereModelled}
 use Rattle.slate_store.specs.Checkpoints.{to_refresh}
-use Rattle.slate_store.specs.Refusals.{FollowsPlan}
+use Rattle.slate_store.specs.Refusals.{CountsFaults, CountsTries, FollowsPlan}
 use Rattle.slate_store.proofs.Checkpointed.{followed-keeps, refresh-keeps}
 use Rattle.slate_store.proofs.commits.refresh_checkpoint.Goals as goal
 
-pub returns-clause-sound : goal.returns-clause-sound
-returns-clause-sound g c =
+pub returns : goal.returns
+returns g c =
     let plan = to_refresh c.args.id c.args.lifetime c.args.moment in
     let follows : WhereModelled (λ o o'. (made : ℕ) × FollowsPlan plan o c.commit.result made o') (g.S.Store.objects c.args.store.now) (g.S.Store.objects c.commit.new.store) = search rules in
-    followed-keeps plan (refresh-keeps c.args.id c.args.lifetime c.args.moment) follows
+    let faults : CountsFaults (g.S.Store.faults c.args.store.now) (g.S.Store.faults c.commit.new.store) c.commit.result = search rules in
+    let tries : CountsTries (g.S.Store.calls c.args.store.now) (g.S.Store.calls c.commit.new.store) c.commit.result = search rules in
+    record {
+      follows = follows;
+      sound = followed-keeps plan (refresh-keeps c.args.id c.args.lifetime c.args.moment) follows;
+      faults = faults;
+      tries = tries;
+      decided = c.commit.ensures.decided;
+      kind = c.commit.ensures.kind;
+    }

@@ -1,4 +1,4 @@
-use Rattle.std.proofs.Common.{◌≡◌, ◌+◌, ◌*◌, ◌<◌, ◌≤◌, ◌∙◌, None, Some, Ok, Err, IfOk, rules, ap, subst, of_z, to_z}
+use Rattle.std.proofs.Common.{◌≡◌, ◌+◌, ◌<◌, ◌≤◌, ◌∙◌, None, Some, Ok, Err, IfOk, rules, ap, subst, of_z, to_z}
 use Rattle.std.proofs.Math.Facts.{to_z-of_z}
 use Rattle.std.specs.Int.{w64}
 use Rattle.std.specs.Option.{IfSome}
@@ -69,7 +69,7 @@ loop-earlier-preserved g c =
       kept = again.1 ∙ i.kept;
       faults = a.ensures.faults.stays ∙ i.faults;
       calls = tries-on t (g.S.Store.objects c.loop-earlier.store) i.kept c.args.self.now.lag c.loop-earlier.earlier (g.S.Store.calls c.args.store.now) (g.S.Store.calls c.loop-earlier.store) (g.S.Store.calls c.try_to_keep.new.store) i.calls
-          (subst (λ (f : Follower). IfSome (g.S.Store.objects c.loop-earlier.store) (λ o. g.S.Store.calls c.try_to_keep.new.store ≤ g.S.Store.calls c.loop-earlier.store + (readings f.lag (replayed_logs o) + 3))) i.same (a.ensures.calls_again (ap Ok none)));
+          (subst (λ (f : Follower). IfSome (g.S.Store.objects c.loop-earlier.store) (λ o. g.S.Store.calls c.try_to_keep.new.store ≤ g.S.Store.calls c.loop-earlier.store + (readings f.lag (replayed_logs o) + 3))) i.same a.ensures.calls);
       within = search rules;
       met = λ more. if_some (g.S.Store.objects c.args.store.now) (λ o at. timed-out (Stands (checkpoint_changes plan o) o) plan o (all.some o at).2.1.cause);
     }
@@ -89,14 +89,14 @@ returns-in_err-kept-clause-calls g c =
     let i = c.loop-earlier.invariant in
     let fewer : c.loop-earlier.earlier < 8 = search rules in
     last-try (g.S.Store.objects c.args.store.now) (g.S.Store.objects c.loop-earlier.store) i.kept c.args.self.now.lag c.loop-earlier.earlier (g.S.Store.calls c.args.store.now) (g.S.Store.calls c.loop-earlier.store) (g.S.Store.calls c.try_to_keep.new.store) i.calls fewer
-    (subst (λ (f : Follower). IfSome (g.S.Store.objects c.loop-earlier.store) (λ o. g.S.Store.calls c.try_to_keep.new.store ≤ g.S.Store.calls c.loop-earlier.store + 2 * (readings f.lag (replayed_logs o) + 2))) i.same c.in_err-kept.ensures.calls)
+    (subst (λ (f : Follower). IfSome (g.S.Store.objects c.loop-earlier.store) (λ o. g.S.Store.calls c.try_to_keep.new.store ≤ g.S.Store.calls c.loop-earlier.store + (readings f.lag (replayed_logs o) + 3))) i.same c.in_err-kept.ensures.calls)
 
 pub returns-in-Some-clause-calls : goal.returns-in-Some-clause-calls
 returns-in-Some-clause-calls g c =
     let i = c.loop-earlier.invariant in
     let fewer : c.loop-earlier.earlier < 8 = search rules in
     last-try (g.S.Store.objects c.args.store.now) (g.S.Store.objects c.loop-earlier.store) i.kept c.args.self.now.lag c.loop-earlier.earlier (g.S.Store.calls c.args.store.now) (g.S.Store.calls c.loop-earlier.store) (g.S.Store.calls c.try_to_keep.new.store) i.calls fewer
-    (subst (λ (f : Follower). IfSome (g.S.Store.objects c.loop-earlier.store) (λ o. g.S.Store.calls c.try_to_keep.new.store ≤ g.S.Store.calls c.loop-earlier.store + 2 * (readings f.lag (replayed_logs o) + 2))) i.same c.in_ok-kept.ensures.calls)
+    (subst (λ (f : Follower). IfSome (g.S.Store.objects c.loop-earlier.store) (λ o. g.S.Store.calls c.try_to_keep.new.store ≤ g.S.Store.calls c.loop-earlier.store + (readings f.lag (replayed_logs o) + 3))) i.same c.in_ok-kept.ensures.calls)
 
 pub returns-clause-calls : goal.returns-clause-calls
 returns-clause-calls g c =

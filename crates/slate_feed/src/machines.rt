@@ -253,14 +253,14 @@ impl FeedMachine {
         ensures calls { S.calls store.new ≡ one_more (S.calls store.old) }
     {
         match store.latest_manifest(alloc) {
-            Ok(Some(latest)) => Ok(self.go_by(alloc, latest.manifest)),
+            Ok(Some(latest)) => Ok(self.adopt(alloc, latest.manifest)),
             Ok(None) => Err(FeedRefusal::LatestTransactionalObjectVersionMissing),
             Err(error) => Err(FeedRefusal::of_call(error)),
         }
     }
 
     /// Goes on by a manifest, where a batch is asked for.
-    fn go_by(&mut self, alloc: Global, manifest: Manifest) -> Turn
+    fn adopt(&mut self, alloc: Global, manifest: Manifest) -> Turn
         requires ended { self.old.stage ≡ Ended }
         requires fresh { (self.old.found ≡ []) × (self.old.began ≡ false) }
         ensures by { GoesBy manifest self.old result self.new }

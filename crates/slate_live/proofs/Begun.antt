@@ -5,7 +5,9 @@ use Rattle.std.specs.List.{slice_get}
 use Rattle.slate_model.specs.Begun.{Begun}
 use Rattle.slate_script.specs.declared.commands.Action.{Action}
 use Rattle.slate_script.specs.declared.commands.Action.TheVariants as actions
-use Rattle.slate_live.specs.Calls.{ArePolls, HaveSamePolls, OfObject, Whole, Begins, Steps, drops, ends_poll, kind_of, target_of}
+use Rattle.slate_live.specs.Calls.{ArePolls, HaveSamePolls, Whole, Begins, Steps, drops, ends_poll, kind_of, target_of}
+use Rattle.slate_live.specs.declared.targets.Target.{Target}
+use Rattle.slate_live.specs.declared.targets.Target.TheVariants.{OfObject}
 use Rattle.slate_live.specs.State.{IsBegunAt}
 use Rattle.slate_live.proofs.Places.{get-set_other}
 
@@ -126,6 +128,12 @@ are-same_named action m polls names none n b = (
 -- an action that ends no poll leaves the polls
 pub are-kept : (action : Action) (polls polls' : List (Option Begun)) → ((n : ℕ) → drops n action ≡ false) → HaveSamePolls polls polls' → ArePolls action polls polls'
 are-kept action polls polls' never same n b = ((λ at. ((same n b).0 at, never n)), λ at no. (same n b).1 at)
+
+-- a command that names no object drops no poll
+pub drops-none : (action : Action) (target : Target) → target_of action ≡ target → ((n : ℕ) → target ≡ OfObject n → ⊥) → (n : ℕ) → drops n action ≡ false
+drops-none (actions.Poll m) target is other n = absurd (other m (sym is))
+drops-none (actions.Close m options) target is other n = absurd (other m (sym is))
+drops-none action target is other n = refl
 
 pub same-polls : (polls polls' : List (Option Begun)) → polls' ≡ polls → HaveSamePolls polls polls'
 same-polls polls polls' is n b = ((λ at. subst (λ xs. IsBegunAt xs n b) is at), λ at. subst (λ xs. IsBegunAt xs n b) (sym is) at)

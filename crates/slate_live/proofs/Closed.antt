@@ -6,6 +6,7 @@ use Rattle.slate_types.specs.declared.batches.Batch.{Batch}
 use Rattle.slate_types.specs.declared.batches.KeyOp.{KeyOp}
 use Rattle.slate_types.specs.declared.read_faults.ReadFault.{ReadFault}
 use Rattle.slate_store.specs.declared.objects.TableId.{TableId}
+use Rattle.slate_store.specs.declared.reader_modes.DbReaderMode.{DbReaderMode}
 use Rattle.slate_errors.specs.Errors.{closed_error}
 use Rattle.slate_errors.specs.declared.closing.CloseFault.{CloseFault}
 use Rattle.slate_errors.specs.declared.errors.SlateError.{SlateError}
@@ -20,8 +21,10 @@ use Rattle.slate_model.specs.Write.{Writes, WritesByAny, closed_refusal}
 use Rattle.slate_model.specs.declared.answers.PollAnswer.{PollAnswer}
 use Rattle.slate_model.specs.declared.answers.Written.{Written}
 use Rattle.slate_script.specs.declared.commands.Action.{Action}
+use Rattle.slate_script.specs.declared.commands.Action.TheVariants as actions
 use Rattle.slate_script.specs.declared.replies.Reply.{Reply}
 use Rattle.slate_live.specs.Calls.{asks_extractor, named, read_by, target_of}
+use Rattle.slate_live.specs.declared.targets.Target.TheVariants.{NewFollower, NewHandle}
 use Rattle.slate_live.specs.Followers.{PollsAs, PollsFollower}
 use Rattle.slate_live.specs.Replies.{polled_reply, reply_to}
 use Rattle.slate_live.proofs.Cases.{some-of}
@@ -72,3 +75,12 @@ module _ {L : Type 0} (k : Knowledge L) (x : Option Extractor) (moment : ℤ) (o
 -- whether a command asks the extractor, where it names one of these objects or none
 abbrev pub asks-extractor : List Object → Action → Bool
 asks-extractor objects action = asks_extractor (read_by objects (named objects (target_of action))) action
+
+-- an opening of a handle does, and one of a reader
+pub opening-asks : (objects : List Object) (action : Action) (keeps_log : Bool) → target_of action ≡ NewHandle keeps_log → asks-extractor objects action ≡ true
+opening-asks objects (actions.Open wal) keeps_log is = refl
+opening-asks objects action keeps_log is = absurd (cc)
+
+pub following-asks : (objects : List Object) (action : Action) (mode : DbReaderMode) (managed : Option (ℕ × ℕ)) (skips : Bool) (lag : Option ℕ) → target_of action ≡ NewFollower mode managed skips lag → asks-extractor objects action ≡ true
+following-asks objects (actions.Follow mode' managed' skip' lag') mode managed skips lag is = refl
+following-asks objects action mode managed skips lag is = absurd (cc)

@@ -19,7 +19,9 @@ use Rattle.slate_model.specs.declared.answers.PollAnswer.{PollAnswer}
 use Rattle.slate_model.specs.declared.snapshots.HandleSnapshot.{HandleSnapshot}
 use Rattle.slate_script.specs.declared.commands.Command.{Command}
 use Rattle.slate_script.specs.declared.replies.Reply.{Reply}
-use Rattle.slate_live.specs.Calls.{Call, NewHandle, NewSnapshot, NewFollower, NewCheckpoint, WholeStore, OfWrite, OfObject, Target, at_snapshot, call_of, target_of}
+use Rattle.slate_live.specs.Calls.{Call, at_snapshot, call_of, target_of}
+use Rattle.slate_live.specs.declared.targets.Target.{Target}
+use Rattle.slate_live.specs.declared.targets.Target.TheVariants.{NewHandle, NewSnapshot, NewFollower, NewCheckpoint, WholeStore, OfWrite, OfObject}
 use Rattle.slate_live.specs.Commands.{ActsAt, ActsOn, DoesBy, OpensSnapshot, ReadsSnapshot, added, interval_of, lag_of, lifetime_of}
 use Rattle.slate_live.specs.Followers.{FollowerActs}
 use Rattle.slate_live.specs.Handles.{HandleActs}

@@ -32,7 +32,8 @@ use Rattle.slate_script.specs.declared.commands.Command.{Command}
 use Rattle.slate_script.specs.declared.replies.Reply.{Reply}
 use Rattle.slate_script.specs.declared.commands.Action.{Action}
 use Rattle.slate_script.specs.declared.commands.Action.TheVariants as actions
-use Rattle.slate_live.specs.Calls.{OfObject, WholeStore, target_of}
+use Rattle.slate_live.specs.Calls.{target_of}
+use Rattle.slate_live.specs.declared.targets.Target.TheVariants.{OfObject, WholeStore}
 use Rattle.slate_live.specs.Leases.{ComesBefore, closes, polls}
 use Rattle.slate_live.specs.Next.{HasLease, IsFresh, NextBegun, NextStep, StaysFound, StepLeaves}
 use Rattle.slate_live.specs.Represents.{IsFollowerAt, IsReached}

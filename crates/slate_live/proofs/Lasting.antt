@@ -20,7 +20,8 @@ use Rattle.slate_model.specs.Known.{Known}
 use Rattle.slate_model.specs.Object.{Follower as AFollower}
 use Rattle.slate_model.specs.Read.{Reads}
 use Rattle.slate_model.specs.Stores.{by_catalogue}
-use Rattle.slate_live.specs.Calls.{Begins, Kind, OfObject, Steps, Whole, call_of, kind_of, target_of}
+use Rattle.slate_live.specs.Calls.{Begins, Kind, Steps, Whole, call_of, kind_of, target_of}
+use Rattle.slate_live.specs.declared.targets.Target.TheVariants.{OfObject}
 use Rattle.slate_live.specs.Followers.{TakesFromFollower}
 use Rattle.slate_live.specs.Scans.{Takes, error_of_seek, scanned, sought, with_error}
 use Rattle.slate_live.proofs.Cases.{some-of}

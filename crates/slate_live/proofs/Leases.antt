@@ -24,7 +24,8 @@ use Rattle.slate_model.proofs.Moving.{known-stored}
 use Rattle.slate_model.proofs.Reduced.{some-same}
 use Rattle.slate_script.specs.declared.commands.Command.{Command}
 use Rattle.slate_script.specs.declared.replies.Reply.{Reply}
-use Rattle.slate_live.specs.Calls.{OfObject, WholeStore, call_of, target_of}
+use Rattle.slate_live.specs.Calls.{call_of, target_of}
+use Rattle.slate_live.specs.declared.targets.Target.TheVariants.{OfObject, WholeStore}
 use Rattle.slate_live.proofs.Untouched.{Disturbs}
 use Rattle.slate_live.specs.Next.{HasLease, IsFresh, NextBegun, NextStep, StepLeaves}
 use Rattle.slate_live.specs.Represents.{IsFollowerAt, IsReached}

@@ -20,7 +20,9 @@ use Rattle.slate_script.specs.declared.commands.Action.TheVariants as actions
 use Rattle.slate_script.specs.declared.commands.Command.{Command}
 use Rattle.slate_script.specs.declared.replies.Reply.{Reply}
 use Rattle.slate_script.specs.declared.replies.Reply.TheVariants as replies
-use Rattle.slate_live.specs.Calls.{ArePolls, Begins, Kind, OfObject, Steps, Target, Whole, kind_of, target_of}
+use Rattle.slate_live.specs.Calls.{ArePolls, Begins, Kind, Steps, Whole, kind_of, target_of}
+use Rattle.slate_live.specs.declared.targets.Target.{Target}
+use Rattle.slate_live.specs.declared.targets.Target.TheVariants.{OfObject}
 use Rattle.slate_live.specs.Commands.{Does, DoesBy}
 use Rattle.slate_live.specs.Next.{NextBy}
 use Rattle.slate_live.specs.Represents.{AllInSegments, Links, Represents, StandsOn}
@@ -108,39 +110,3 @@ linked settings command live live' store store' reply opts done fits = by (kind_
 -- a command does what is said of its target
 pub does-at : {L : Type 0} (k : Knowledge L) (settings : Settings) (command : Command) (made : ℕ) (s : State L) (reply : Reply) (s' : State L) (target : Target) → target_of command.action ≡ target → DoesBy k settings command target made s reply s' → Does k settings made s command reply s'
 does-at k settings command made s reply s' target is does = subst (λ t. DoesBy k settings command t made s reply s') (sym is) does
-
--- the action names the object with this number
-abbrev pub Names : Action → ℕ → Type 0
-Names action n =
-    ((key : List ℕ) × (value : List ℕ) × (expire : Option ℤ) × (action ≡ actions.Put n key value expire))
-    ⊎ (((key : List ℕ) × (value : List ℕ) × (expire : Option ℤ) × (action ≡ actions.Merge n key value expire))
-    ⊎ (((key : List ℕ) × (action ≡ actions.Delete n key))
-    ⊎ (((batch : WriteBatch) × (action ≡ actions.Batch n batch))
-    ⊎ (((flush_type : Option FlushType) × (action ≡ actions.Flush n flush_type))
-    ⊎ ((action ≡ actions.Refresh n)
-    ⊎ ((action ≡ actions.Compact n)
-    ⊎ (((key : List ℕ) × (remote : Bool) × (action ≡ actions.Get n key remote))
-    ⊎ (((range : ByteRange) × (order : IterationOrder) × (remote : Bool) × (action ≡ actions.Scan n range order remote))
-    ⊎ (((range : ByteRange) × (take : ℕ) × (key : List ℕ) × (order : IterationOrder) × (remote : Bool) × (action ≡ actions.Seek n range take key order remote))
-    ⊎ (((options : Option CloseOptions) × (action ≡ actions.Close n options))
-    ⊎ ((action ≡ actions.Poll n)
-    ⊎ ((action ≡ actions.Status n)
-    ⊎ (((number : ℕ) × (find : FindOption) × (action ≡ actions.Ts n number find))
-    ⊎ ((seconds : ℤ) × (find : FindOption) × (action ≡ actions.Seq n seconds find)))))))))))))))
-
-pub names-object : (action : Action) (n : ℕ) → Names action n → target_of action ≡ OfObject n
-names-object action n (inl put) = ap target_of put.3
-names-object action n (inr (inl merge)) = ap target_of merge.3
-names-object action n (inr (inr (inl delete))) = ap target_of delete.1
-names-object action n (inr (inr (inr (inl batch)))) = ap target_of batch.1
-names-object action n (inr (inr (inr (inr (inl flush))))) = ap target_of flush.1
-names-object action n (inr (inr (inr (inr (inr (inl refresh)))))) = ap target_of refresh
-names-object action n (inr (inr (inr (inr (inr (inr (inl compact))))))) = ap target_of compact
-names-object action n (inr (inr (inr (inr (inr (inr (inr (inl get)))))))) = ap target_of get.2
-names-object action n (inr (inr (inr (inr (inr (inr (inr (inr (inl scan))))))))) = ap target_of scan.3
-names-object action n (inr (inr (inr (inr (inr (inr (inr (inr (inr (inl seek)))))))))) = ap target_of seek.5
-names-object action n (inr (inr (inr (inr (inr (inr (inr (inr (inr (inr (inl close))))))))))) = ap target_of close.1
-names-object action n (inr (inr (inr (inr (inr (inr (inr (inr (inr (inr (inr (inl poll)))))))))))) = ap target_of poll
-names-object action n (inr (inr (inr (inr (inr (inr (inr (inr (inr (inr (inr (inr (inl status))))))))))))) = ap target_of status
-names-object action n (inr (inr (inr (inr (inr (inr (inr (inr (inr (inr (inr (inr (inr (inl time)))))))))))))) = ap target_of time.2
-names-object action n (inr (inr (inr (inr (inr (inr (inr (inr (inr (inr (inr (inr (inr (inr number)))))))))))))) = ap target_of number.2

@@ -35,7 +35,9 @@ use Rattle.slate_script.specs.declared.commands.Command.{Command}
 use Rattle.slate_script.specs.declared.replies.Reply.{Reply}
 use Rattle.slate_script.specs.declared.replies.Reply.TheVariants as replies
 use Rattle.slate_live.specs.declared.states.Write.{Write}
-use Rattle.slate_live.specs.Calls.{ArePolls, Call, Write as WriteCall, Merge as MergeCall, Flush, Refresh, Compact, Get, Scan, Seek, Close, Poll, Status, FindTime, FindNumber, Nothing, call_of, named, Target, NewHandle, NewSnapshot, NewFollower, NewCheckpoint, WholeStore, OfWrite, OfObject, at_snapshot, target_of}
+use Rattle.slate_live.specs.Calls.{ArePolls, Call, Write as WriteCall, Merge as MergeCall, Flush, Refresh, Compact, Get, Scan, Seek, Close, Poll, Status, FindTime, FindNumber, Nothing, call_of, named, at_snapshot, target_of}
+use Rattle.slate_live.specs.declared.targets.Target.{Target}
+use Rattle.slate_live.specs.declared.targets.Target.TheVariants.{NewHandle, NewSnapshot, NewFollower, NewCheckpoint, WholeStore, OfWrite, OfObject}
 use Rattle.slate_live.specs.Commands.{Acts, ActsAt, ActsOn, Adds, Does, DoesBy, DoesToStore, OpensSnapshot, ReadsSnapshot, added, asked_reply, interval_of, lag_of, lifetime_of, write_reply}
 use Rattle.slate_live.specs.Maintenance.{CommitsTo, SweepsTo}
 use Rattle.slate_live.specs.Replies.{followed_reply, reply_to}

@@ -35,7 +35,9 @@ use Rattle.slate_script.specs.declared.commands.Command.{Command}
 use Rattle.slate_script.specs.declared.replies.Reply.{Reply}
 use Rattle.slate_script.specs.declared.replies.Reply.TheVariants as replies
 use Rattle.slate_live.specs.declared.states.Write.{Write}
-use Rattle.slate_live.specs.Calls.{Whole, kind_of, Call, NewHandle, NewSnapshot, NewFollower, NewCheckpoint, WholeStore, OfWrite, OfObject, Target, at_snapshot, call_of, target_of}
+use Rattle.slate_live.specs.Calls.{Whole, kind_of, Call, at_snapshot, call_of, target_of}
+use Rattle.slate_live.specs.declared.targets.Target.{Target}
+use Rattle.slate_live.specs.declared.targets.Target.TheVariants.{NewHandle, NewSnapshot, NewFollower, NewCheckpoint, WholeStore, OfWrite, OfObject}
 use Rattle.slate_live.specs.Commands.{ActsAt, ActsOn, DoesBy, OpensSnapshot, ReadsSnapshot, added}
 use Rattle.slate_live.specs.Handles.{GetsFrom, HandleActs, TakesFrom, TakesSnapshot, cut}
 use Rattle.slate_live.specs.Replies.{found_reply, refusal, reply_to}

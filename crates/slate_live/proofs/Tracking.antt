@@ -49,7 +49,8 @@ use Rattle.slate_script.specs.declared.commands.Action.TheVariants as actions
 use Rattle.slate_script.specs.declared.commands.Command.{Command}
 use Rattle.slate_script.specs.declared.replies.Reply.{Reply}
 use Rattle.slate_script.specs.declared.replies.Reply.TheVariants as replies
-use Rattle.slate_live.specs.Calls.{Begins, Call, Close, Flush, Kind, OfObject, Steps, Whole, call_of, flush_of_close, kind_of, target_of}
+use Rattle.slate_live.specs.Calls.{Begins, Call, Close, Flush, Kind, Steps, Whole, call_of, flush_of_close, kind_of, target_of}
+use Rattle.slate_live.specs.declared.targets.Target.TheVariants.{OfObject}
 use Rattle.slate_live.specs.Next.{NextBegun, NextBy}
 use Rattle.slate_live.specs.Commands.{ActsOn, Adds, DoesBy, added}
 use Rattle.slate_live.specs.Handles.{ClosesHandle, flush_type_by}

@@ -32,7 +32,8 @@ use Rattle.slate_script.specs.declared.commands.Action.TheVariants as actions
 use Rattle.slate_script.specs.declared.commands.Command.{Command}
 use Rattle.slate_script.specs.declared.replies.Reply.{Reply}
 use Rattle.slate_script.specs.declared.replies.Reply.TheVariants as replies
-use Rattle.slate_live.specs.Calls.{NewFollower, OfObject, Poll, call_of, target_of}
+use Rattle.slate_live.specs.Calls.{Poll, call_of, target_of}
+use Rattle.slate_live.specs.declared.targets.Target.TheVariants.{NewFollower, OfObject}
 use Rattle.slate_live.specs.Commands.{ActsOn, Adds, DoesBy, added, interval_of, lag_of, lifetime_of}
 use Rattle.slate_live.specs.Followers.{PollsAs}
 use Rattle.slate_live.specs.Leases.{is_whole, polls}

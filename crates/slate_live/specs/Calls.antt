@@ -24,20 +24,10 @@ use Rattle.slate_script.specs.declared.commands.Action.{Action}
 use Rattle.slate_script.specs.declared.commands.Action.TheVariants as actions
 use Rattle.slate_script.specs.declared.commands.Command.{Command}
 use Rattle.slate_live.specs.State.{IsBegunAt}
+use Rattle.slate_live.specs.declared.targets.Target.{Target}
+use Rattle.slate_live.specs.declared.targets.Target.TheVariants.{NewHandle, NewSnapshot, NewFollower, NewCheckpoint, WholeStore, OfWrite, OfObject}
 
--- Where a command goes: it opens a handle, which keeps a log or not, a snapshot of the handle with a number, or a follower in
--- a mode, which skips log files or not, may lag by so many numbers, and has a lifetime and an interval where it keeps a checkpoint; it
--- commits a checkpoint of the store, with a lifetime or without an end, sweeps the store, asks for the write with a number, or names the
--- object with one.
-pub data Target : Type 0 where
-  NewHandle : (keeps_log : Bool) → Target
-  NewSnapshot : (handle : ℕ) → Target
-  NewFollower : (mode : DbReaderMode) → (managed : Option (ℕ × ℕ)) → (skips : Bool) → (lag : Option ℕ) → Target
-  NewCheckpoint : (lifetime : Option ℕ) → Target
-  WholeStore : Target
-  OfWrite : (n : ℕ) → Target
-  OfObject : (n : ℕ) → Target
-
+-- where a command goes
 abbrev pub target_of : Action → Target
 target_of (actions.Open wal) = NewHandle wal
 target_of (actions.Snapshot n) = NewSnapshot n

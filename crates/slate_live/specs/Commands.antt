@@ -15,7 +15,9 @@ use Rattle.slate_script.specs.declared.commands.Command.{Command}
 use Rattle.slate_script.specs.declared.replies.Reply.{Reply}
 use Rattle.slate_script.specs.declared.replies.Reply.TheVariants as replies
 use Rattle.slate_live.specs.declared.states.Write.{Write}
-use Rattle.slate_live.specs.Calls.{Call, Target, NewHandle, NewSnapshot, NewFollower, NewCheckpoint, WholeStore, OfWrite, OfObject, at_snapshot, call_of, target_of}
+use Rattle.slate_live.specs.Calls.{Call, at_snapshot, call_of, target_of}
+use Rattle.slate_live.specs.declared.targets.Target.{Target}
+use Rattle.slate_live.specs.declared.targets.Target.TheVariants.{NewHandle, NewSnapshot, NewFollower, NewCheckpoint, WholeStore, OfWrite, OfObject}
 use Rattle.slate_live.specs.Followers.{FollowerActs}
 use Rattle.slate_live.specs.Handles.{HandleActs, TakesSnapshot, durable_reply}
 use Rattle.slate_live.specs.Maintenance.{CommitsTo, SweepsTo}

@@ -6,6 +6,7 @@ pub mod Commands
 pub mod Confirmed
 pub mod Followers
 pub mod Handles
+pub mod Lawful
 pub mod Leases
 pub mod Maintenance
 pub mod Publishing

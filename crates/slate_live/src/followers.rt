@@ -10,8 +10,9 @@ ghost use Rattle.slate_model.specs.Status.{follower_status};
 ghost use Rattle.slate_model.specs.Stores.{by_objects};
 ghost use Rattle.slate_live.specs.declared.states.Write.{Write};
 ghost use Rattle.slate_model.specs.Segments.{Extractor, IsExtractor};
+ghost use Rattle.slate_live.specs.Lawful.{AreLawful, asks_of};
 ghost use Rattle.slate_live.specs.Settings.{Settings};
-ghost use Rattle.slate_live.specs.Calls.{asks_extractor, asks_operator, call_of, end_calls, ends_poll, most_asked, poll_calls};
+ghost use Rattle.slate_live.specs.Calls.{call_of, end_calls, ends_poll, most_asked, poll_calls};
 ghost use Rattle.slate_live.specs.Followers.{ClosesFollower, FollowerActs, GetsFromFollower, PollsFollower, TakesFromFollower};
 ghost use Rattle.slate_live.specs.Replies.{AnswersStatus, follower_closed_reply, polled_reply};
 ghost use Rattle.slate_live.specs.Scans.{scanned, sought};
@@ -38,7 +39,7 @@ pub(crate) fn act<S: Store, M: MergeOperator, E: PrefixExtractor>(
     ensures faults { S.faults store.old ≤ S.faults store.new }
     ensures calls { IfSome (S.objects store.old) (λ o. S.calls store.new ≤ S.calls store.old + most_asked o (Some (AFollower follower.old)) (call_of command.now.action)) }
     ensures untouched { (follower.old.result ≡ None → ⊥) → store.new ≡ store.old }
-    ensures does { (settings : Settings) (writes : List Write) → (asks_operator (Some (AFollower follower.old)) command.now.action ≡ true → IsOperator M.may_answer (option_copied operator.entry) settings.merge) → (asks_extractor (Some (AFollower follower.old)) command.now.action ≡ true → IsExtractor E.may_name E.may_extract (option_copied extractor.entry) settings.extractor) →
+    ensures does { (settings : Settings) (writes : List Write) → AreLawful M.may_answer (option_copied operator.entry) E.may_name E.may_extract (option_copied extractor.entry) settings (asks_of (Some (AFollower follower.old)) command.now.action) →
         (made : ℕ) × FollowerActs (by_objects (S.objects store.old)) settings command.now.moment (call_of command.now.action) made
         follower.old (known S.objects S.faults store.old) writes result follower.new (known S.objects S.faults store.new) writes }
     ensures stays { ends_poll command.now.action ≡ false → follower.new ≡ follower.old }

@@ -12,6 +12,7 @@ mod runs;
 mod scans;
 mod sessions;
 mod states;
+mod targets;
 
 pub use laws::{begun_polls_stand, calls_are_steps, commands_lead_on};
 pub use runs::run;

@@ -5,7 +5,7 @@ ghost use Rattle.slate_reads.specs.Read.{IsOperator};
 ghost use Rattle.slate_model.specs.Known.{known};
 ghost use Rattle.slate_model.specs.Stores.{by_objects};
 ghost use Rattle.slate_live.specs.Shut.{IsShut, IsShutAt};
-ghost use Rattle.slate_live.specs.Calls.{asks_extractor, asks_operator, at_snapshot, call_of, ends_poll, most_asked, read_by};
+ghost use Rattle.slate_live.specs.Calls.{asks_operator, at_snapshot, call_of, ends_poll, most_asked, read_by};
 ghost use Rattle.slate_live.specs.Commands.{Acts, asked_reply};
 ghost use Rattle.slate_live.specs.Objects.{object_of, poll_of};
 ghost use Rattle.slate_model.specs.Follower.{Follower, is_managed};
@@ -13,6 +13,7 @@ ghost use Rattle.slate_model.specs.Object.{Follower as AFollower, Object as AnOb
 ghost use Rattle.slate_model.specs.Segments.{Extractor, IsExtractor};
 ghost use Rattle.slate_script.specs.declared.replies.Reply.TheVariants as replies;
 ghost use Rattle.slate_live.specs.Stepping.{BeginsOf, StepsObject};
+ghost use Rattle.slate_live.specs.Lawful.{AreLawful, asks_of};
 ghost use Rattle.slate_live.specs.Settings.{Settings};
 ghost use Rattle.slate_live.specs.Sampling.{ActsAsOf, snapshot_of, taken_of};
 ghost use Rattle.slate_live.specs.declared.states.Write.{Write as AWrite};
@@ -67,7 +68,7 @@ impl Object {
         ensures calls { IfSome (S.objects store.old) (λ o.
             S.calls store.new ≤ S.calls store.old + most_asked o (Some (object_of self.old)) (call_of command.now.action)) }
         ensures untouched { IsShut (object_of self.old) → store.new ≡ store.old }
-        ensures does { (settings : Settings) → (asks_operator (Some (object_of self.old)) command.now.action ≡ true → IsOperator M.may_answer (option_copied operator.entry) settings.merge) → (asks_extractor (Some (object_of self.old)) command.now.action ≡ true → IsExtractor E.may_name E.may_extract (option_copied extractor.entry) settings.extractor) →
+        ensures does { (settings : Settings) → AreLawful M.may_answer (option_copied operator.entry) E.may_name E.may_extract (option_copied extractor.entry) settings (asks_of (Some (object_of self.old)) command.now.action) →
             (made : ℕ) × Acts (by_objects (S.objects store.old)) settings number command.now (call_of command.now.action) made
             (object_of self.old) (known S.objects S.faults store.old) writes.old.items result (object_of self.new) (known S.objects S.faults store.new) writes.new.items }
         ensures poll { poll_of self.new ≡ (if ends_poll command.now.action then None else poll_of self.old) }

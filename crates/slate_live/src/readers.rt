@@ -1,15 +1,15 @@
 // A live reader, and the poll of it that makes its calls of the store one by one.
 ghost use Rattle.std.specs.Prelude.{◌≡◌, ◌≤◌, ◌+◌, ℕ, None, Some, List, Option, IfSome, true, false, if◌then◌else◌, is_some};
 ghost use Rattle.std.specs.Option.{option_copied};
-ghost use Rattle.slate_reads.specs.Read.{IsOperator};
 ghost use Rattle.slate_model.specs.Follower.{is_managed};
 ghost use Rattle.slate_model.specs.Known.{known};
 ghost use Rattle.slate_model.specs.Object.{Follower as AFollower};
 ghost use Rattle.slate_model.specs.Segments.{Extractor, IsExtractor};
 ghost use Rattle.slate_model.specs.Stores.{by_objects};
 ghost use Rattle.slate_script.specs.declared.replies.Reply.TheVariants as replies;
-ghost use Rattle.slate_live.specs.Calls.{asks_extractor, asks_operator, call_of, ends_poll, most_asked};
+ghost use Rattle.slate_live.specs.Calls.{call_of, ends_poll, most_asked};
 ghost use Rattle.slate_live.specs.Followers.{FollowerActs};
+ghost use Rattle.slate_live.specs.Lawful.{AreLawful, asks_of};
 ghost use Rattle.slate_live.specs.Settings.{Settings};
 ghost use Rattle.slate_live.specs.Stepping.{BeginsReader, StepsOf};
 ghost use Rattle.slate_live.specs.declared.states.Write.{Write};
@@ -75,7 +75,7 @@ impl Reader {
         ensures faults { S.faults store.old ≤ S.faults store.new }
         ensures calls { IfSome (S.objects store.old) (λ o. S.calls store.new ≤ S.calls store.old + most_asked o (Some (AFollower self.old.state)) (call_of command.now.action)) }
         ensures untouched { (self.old.state.result ≡ None → ⊥) → store.new ≡ store.old }
-        ensures does { (settings : Settings) (writes : List Write) → (asks_operator (Some (AFollower self.old.state)) command.now.action ≡ true → IsOperator M.may_answer (option_copied operator.entry) settings.merge) → (asks_extractor (Some (AFollower self.old.state)) command.now.action ≡ true → IsExtractor E.may_name E.may_extract (option_copied extractor.entry) settings.extractor) →
+        ensures does { (settings : Settings) (writes : List Write) → AreLawful M.may_answer (option_copied operator.entry) E.may_name E.may_extract (option_copied extractor.entry) settings (asks_of (Some (AFollower self.old.state)) command.now.action) →
             (made : ℕ) × FollowerActs (by_objects (S.objects store.old)) settings command.now.moment (call_of command.now.action) made
             self.old.state (known S.objects S.faults store.old) writes result self.new.state (known S.objects S.faults store.new) writes }
         ensures poll { self.new.poll ≡ (if ends_poll command.now.action then None else self.old.poll) }

@@ -1,12 +1,10 @@
 // Running a list of commands over a store, with a reply to each.
 ghost use Rattle.std.specs.Prelude.{All, ◌≡◌, ◌≤◌, [], List, None, Option, IfOk, OnErr, true};
 ghost use Rattle.std.specs.Option.{option_copied};
-ghost use Rattle.slate_reads.specs.Read.{IsOperator};
 ghost use Rattle.slate_model.specs.Known.{known};
 ghost use Rattle.slate_types.specs.declared.batches.Batch.{Batch};
-ghost use Rattle.slate_live.specs.Calls.{one_goes_by_extractor, one_goes_by_operator};
+ghost use Rattle.slate_live.specs.Lawful.{AreLawful, asks_in};
 ghost use Rattle.slate_live.specs.Run.{DidAll, IsRun};
-ghost use Rattle.slate_model.specs.Segments.{IsExtractor};
 ghost use Rattle.slate_live.specs.Settings.{Settings};
 
 use crate::LiveState;
@@ -34,9 +32,9 @@ pub fn run<S: Store, M: MergeOperator, E: PrefixExtractor>(
     ensures faults { S.faults store.old ≤ S.faults store.new }
     ensures nothing { OnErr result (store.new ≡ store.old) }
     // Over any store each command is done as `apply` says, with its reply, from a state without an object on.
-    ensures does { IfOk result (λ replies. (settings : Settings) → (one_goes_by_operator commands.now ≡ true → IsOperator M.may_answer (option_copied operator.entry) settings.merge) → (one_goes_by_extractor commands.now ≡ true → IsExtractor E.may_name E.may_extract (option_copied extractor.entry) settings.extractor) → settings.options ≡ options.now →
+    ensures does { IfOk result (λ replies. (settings : Settings) → AreLawful M.may_answer (option_copied operator.entry) E.may_name E.may_extract (option_copied extractor.entry) settings (asks_in commands.now) → settings.options ≡ options.now →
         DidAll settings commands.now replies.items (known S.objects S.faults store.old) (known S.objects S.faults store.new)) }
-    ensures leads { IfOk result (λ replies. (settings : Settings) → (one_goes_by_operator commands.now ≡ true → IsOperator M.may_answer (option_copied operator.entry) settings.merge) → (one_goes_by_extractor commands.now ≡ true → IsExtractor E.may_name E.may_extract (option_copied extractor.entry) settings.extractor) → settings.options ≡ options.now →
+    ensures leads { IfOk result (λ replies. (settings : Settings) → AreLawful M.may_answer (option_copied operator.entry) E.may_name E.may_extract (option_copied extractor.entry) settings (asks_in commands.now) → settings.options ≡ options.now →
         IsRun settings commands.now replies.items (known S.objects S.faults store.old) (known S.objects S.faults store.new)) }
 {
     let mut replies = Vec::with_capacity(alloc, commands.len())?;

@@ -8,7 +8,8 @@ ghost use Rattle.slate_model.specs.Known.{Known, known};
 ghost use Rattle.slate_model.specs.Open.{replayed_logs};
 ghost use Rattle.slate_model.specs.Stores.{by_objects};
 ghost use Rattle.slate_live.specs.Shut.{IsShutAt};
-ghost use Rattle.slate_live.specs.Calls.{ArePolls, HaveSamePolls, OfObject, Whole, asks_extractor, asks_operator, call_of, follow_calls, kind_of, most_asked, most_calls, named, read_by, target_of};
+ghost use Rattle.slate_live.specs.Calls.{ArePolls, HaveSamePolls, Whole, asks_operator, call_of, follow_calls, kind_of, most_asked, most_calls, named, read_by, target_of};
+ghost use Rattle.slate_live.specs.declared.targets.Target.TheVariants.{OfObject};
 ghost use Rattle.slate_live.specs.Commands.{ActsOn, Does, interval_of, lag_of, lifetime_of, OpensFollowerIn, OpensHandleIn, OpensSnapshot, ReadsSnapshot, write_reply};
 ghost use Rattle.slate_live.specs.Sampling.{Pushes};
 ghost use Rattle.slate_live.specs.Replies.{followed_reply};
@@ -19,6 +20,7 @@ ghost use Rattle.slate_model.specs.Follower.{Follower, is_managed};
 ghost use Rattle.slate_model.specs.Object.{Follower as AFollower};
 ghost use Rattle.slate_model.specs.Segments.{Extractor, IsExtractor};
 ghost use Rattle.slate_script.specs.declared.replies.Reply.TheVariants as replies;
+ghost use Rattle.slate_live.specs.Lawful.{AreLawful, asks_among, asks_of};
 ghost use Rattle.slate_live.specs.Settings.{Settings, option_tasks};
 ghost use Rattle.slate_live.specs.Stepping.{BeginsPoll, IsDone, StepsPoll};
 ghost use Rattle.slate_live.specs.Valid.{Link};
@@ -29,6 +31,7 @@ use crate::handles::refusal;
 use crate::maintenance::{checkpoint, sweep};
 use crate::objects::Object;
 use crate::readers::Reader;
+use crate::targets::{Target, target_of};
 use slate_follow::{DbReaderMode, DbReaderOptions, FollowerState, PollAnswer};
 use slate_model::HandleSnapshot;
 use slate_script::{Action, Command, Options, Reply};
@@ -106,9 +109,9 @@ impl LiveState {
         ensures calls { IfSome (S.objects store.old) (λ o. S.calls store.new ≤ S.calls store.old + most_calls o self.old.objects command.now) }
         // On a closed handle or reader, and on a snapshot of a closed handle, a command leaves the store as it is, and so calls it not once.
         ensures untouched { IsShutAt (read_by self.old.objects (named self.old.objects (target_of command.now.action))) → store.new ≡ store.old }
-        ensures does { (settings : Settings) → (asks_operator (read_by self.old.objects (named self.old.objects (target_of command.now.action))) command.now.action ≡ true → IsOperator M.may_answer (option_copied operator.entry) settings.merge) → (asks_extractor (read_by self.old.objects (named self.old.objects (target_of command.now.action))) command.now.action ≡ true → IsExtractor E.may_name E.may_extract (option_copied extractor.entry) settings.extractor) → settings.options ≡ self.old.options →
+        ensures does { (settings : Settings) → AreLawful M.may_answer (option_copied operator.entry) E.may_name E.may_extract (option_copied extractor.entry) settings (asks_among self.old.objects command.now.action) → settings.options ≡ self.old.options →
             IsDone settings self.old (known S.objects S.faults store.old) command.now result self.new (known S.objects S.faults store.new) }
-        ensures link { (settings : Settings) → (asks_operator (read_by self.old.objects (named self.old.objects (target_of command.now.action))) command.now.action ≡ true → IsOperator M.may_answer (option_copied operator.entry) settings.merge) → (asks_extractor (read_by self.old.objects (named self.old.objects (target_of command.now.action))) command.now.action ≡ true → IsExtractor E.may_name E.may_extract (option_copied extractor.entry) settings.extractor) → settings.options ≡ self.old.options →
+        ensures link { (settings : Settings) → AreLawful M.may_answer (option_copied operator.entry) E.may_name E.may_extract (option_copied extractor.entry) settings (asks_among self.old.objects command.now.action) → settings.options ≡ self.old.options →
             Links settings.extractor (λ w reply w'. Link settings w command.now reply w')
             self.old (known S.objects S.faults store.old) result self.new (known S.objects S.faults store.new) }
     {
@@ -157,42 +160,29 @@ impl LiveState {
         ensures calls { IfSome (S.objects store.old) (λ o. S.calls store.new ≤ S.calls store.old + most_calls o self.old.objects command.now) }
         ensures untouched { IsShutAt (read_by self.old.objects (named self.old.objects (target_of command.now.action))) → store.new ≡ store.old }
         ensures polls { ArePolls command.now.action self.old.polls self.new.polls }
-        ensures does { (settings : Settings) → (asks_operator (read_by self.old.objects (named self.old.objects (target_of command.now.action))) command.now.action ≡ true → IsOperator M.may_answer (option_copied operator.entry) settings.merge) → (asks_extractor (read_by self.old.objects (named self.old.objects (target_of command.now.action))) command.now.action ≡ true → IsExtractor E.may_name E.may_extract (option_copied extractor.entry) settings.extractor) → settings.options ≡ self.old.options →
+        ensures does { (settings : Settings) → AreLawful M.may_answer (option_copied operator.entry) E.may_name E.may_extract (option_copied extractor.entry) settings (asks_among self.old.objects command.now.action) → settings.options ≡ self.old.options →
             (made : ℕ) × Does (by_objects (S.objects store.old)) settings made
             (running self.old (known S.objects S.faults store.old)) command.now result (running self.new (known S.objects S.faults store.new)) }
     {
-        match &command.action {
-            Action::Open { wal } => self.open(alloc, store, *wal, extractor),
-            Action::Snapshot { handle } => self.snapshot(*handle),
-            Action::Follow {
+        match target_of(&command.action) {
+            Target::NewHandle { keeps_log } => self.open(alloc, store, keeps_log, extractor),
+            Target::NewSnapshot { handle } => self.snapshot(handle),
+            Target::NewFollower {
                 mode,
                 managed,
-                skip,
+                skips,
                 lag,
             } => {
-                let options = reader_options(*managed, *skip, *lag);
-                self.follow(alloc, store, *mode, &options, command.moment, extractor)
+                let options = reader_options(managed, skips, lag);
+                self.follow(alloc, store, mode, &options, command.moment, extractor)
             }
-            Action::Checkpoint { lifetime } => checkpoint(alloc, store, *lifetime, command.moment),
-            Action::Sweep => sweep(alloc, store, command.moment),
-            Action::Await { write } => self.write_reply(*write),
-            Action::Begin { .. } | Action::Step { .. } => Reply::Unknown,
-            Action::Put { handle: number, .. }
-            | Action::Merge { handle: number, .. }
-            | Action::Delete { handle: number, .. }
-            | Action::Batch { handle: number, .. }
-            | Action::Flush { handle: number, .. }
-            | Action::Refresh { handle: number }
-            | Action::Compact { handle: number }
-            | Action::Get { object: number, .. }
-            | Action::Scan { object: number, .. }
-            | Action::Seek { object: number, .. }
-            | Action::Close { object: number, .. }
-            | Action::Poll { follower: number }
-            | Action::Status { object: number }
-            | Action::Ts { handle: number, .. }
-            | Action::Seq { handle: number, .. } => {
-                self.act(alloc, store, *number, operator, extractor, command)
+            Target::NewCheckpoint { lifetime } => {
+                checkpoint(alloc, store, lifetime, command.moment)
+            }
+            Target::WholeStore => sweep(alloc, store, command.moment),
+            Target::OfWrite { write } => self.write_reply(write),
+            Target::OfObject { object } => {
+                self.act(alloc, store, object, operator, extractor, command)
             }
         }
     }
@@ -361,7 +351,7 @@ impl LiveState {
             S.calls store.new ≤ S.calls store.old + most_asked o (read_by self.old.objects (slice_get self.old.objects number)) (call_of command.now.action)) }
         ensures untouched { IsShutAt (read_by self.old.objects (slice_get self.old.objects number)) → store.new ≡ store.old }
         ensures polls { target_of command.now.action ≡ OfObject number → ArePolls command.now.action self.old.polls self.new.polls }
-        ensures does { (settings : Settings) → (asks_operator (read_by self.old.objects (slice_get self.old.objects number)) command.now.action ≡ true → IsOperator M.may_answer (option_copied operator.entry) settings.merge) → (asks_extractor (read_by self.old.objects (slice_get self.old.objects number)) command.now.action ≡ true → IsExtractor E.may_name E.may_extract (option_copied extractor.entry) settings.extractor) →
+        ensures does { (settings : Settings) → AreLawful M.may_answer (option_copied operator.entry) E.may_name E.may_extract (option_copied extractor.entry) settings (asks_of (read_by self.old.objects (slice_get self.old.objects number)) command.now.action) →
             (made : ℕ) × ActsOn (by_objects (S.objects store.old)) settings number command.now (call_of command.now.action) made (slice_get self.old.objects number)
             (running self.old (known S.objects S.faults store.old)) result (running self.new (known S.objects S.faults store.new)) }
     {

@@ -18,7 +18,8 @@ use Rattle.slate_script.specs.declared.commands.Command.{Command}
 use Rattle.slate_script.specs.declared.options.Options.{Options}
 use Rattle.slate_script.specs.declared.replies.Reply.{Reply}
 use Rattle.slate_script.specs.declared.replies.Reply.TheVariants as replies
-use Rattle.slate_live.specs.Calls.{ArePolls, Begins, OfObject, Whole, call_of, kind_of, target_of}
+use Rattle.slate_live.specs.Calls.{ArePolls, Begins, Whole, call_of, kind_of, target_of}
+use Rattle.slate_live.specs.declared.targets.Target.TheVariants.{OfObject}
 use Rattle.slate_live.specs.Commands.{DoesBy, OpensHandleIn, added}
 use Rattle.slate_live.specs.Handles.{HandleActs}
 use Rattle.slate_live.specs.Replies.{refusal, reply_to}

@@ -69,7 +69,7 @@ impl WriterState {
     }
 
     /// Takes a manifest as the one that it goes by, and all its batches as stored.
-    pub(crate) fn go_by_stored(&mut self, manifest: VersionedManifest)
+    pub(crate) fn adopt_stored(&mut self, manifest: VersionedManifest)
         ensures { self.new ≡ record self.old { durable = accepted self.old; view = manifest } }
     {
         let accepted = self.accepted();

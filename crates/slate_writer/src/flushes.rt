@@ -120,7 +120,7 @@ impl WriterState {
         ensures first { IfSome (S.objects store.old) (λ o. IsDecided flush_type self.old o → S.calls store.new ≤ S.calls store.old + 1) }
     {
         let result = self.store_as(alloc, store, flush_type);
-        self.forget_tabled(alloc);
+        self.drop_flushed(alloc);
         result
     }
 
@@ -157,11 +157,11 @@ impl WriterState {
         let mark = latest.manifest.replay_after_wal_id;
         match append_log(alloc, store, mark, self.to_log()) {
             Ok(()) => {
-                self.go_by_stored(latest);
+                self.adopt_stored(latest);
                 Ok(())
             }
             Err(error) => {
-                self.go_by(latest);
+                self.adopt(latest);
                 Err(error)
             }
         }

@@ -39,7 +39,7 @@ impl WriterState {
             return Err(SlateError::of_closed(result));
         }
         let result = self.take_latest(alloc, store);
-        self.settle(alloc, &result);
+        self.finish(alloc, &result);
         result
     }
 
@@ -70,7 +70,7 @@ impl WriterState {
             return Err(SlateError::of_closed(result));
         }
         let result = self.join_tables(alloc, store);
-        self.settle(alloc, &result);
+        self.finish(alloc, &result);
         result
     }
 
@@ -84,7 +84,7 @@ impl WriterState {
         ensures answer { IfSome (S.objects store.old) (λ o. RefreshAnswer self.old o result self.new.view) }
     {
         let latest = current_manifest(alloc, store, self.epoch)?;
-        self.go_by(latest);
+        self.adopt(latest);
         Ok(())
     }
 
@@ -104,7 +104,7 @@ impl WriterState {
         self.counter = index;
         match joined {
             Ok(manifest) => {
-                self.go_by(manifest);
+                self.adopt(manifest);
                 Ok(())
             }
             Err(refusal) => Err(error_of_refusal(refusal)),
@@ -113,11 +113,11 @@ impl WriterState {
 
     /// Drops the batches that are in tables, after a call that may have moved the view, and closes the handle where it was
     /// found fenced.
-    fn settle(&mut self, alloc: Global, answer: &Result<(), SlateError>)
+    fn finish(&mut self, alloc: Global, answer: &Result<(), SlateError>)
         requires { self.old.result ≡ None }
         ensures { self.new ≡ record (kept_handle self.old) { result = fenced_result answer.now } }
     {
-        self.forget_tabled(alloc);
+        self.drop_flushed(alloc);
         if let Err(SlateError::Fenced) = answer {
             self.record_close(Err(CloseFault::Fenced));
         }

@@ -161,7 +161,7 @@ impl WriterState {
     }
 
     /// Takes a manifest as the one that it goes by.
-    pub(crate) fn go_by(&mut self, manifest: VersionedManifest)
+    pub(crate) fn adopt(&mut self, manifest: VersionedManifest)
         ensures { self.new ≡ record self.old { view = manifest } }
     {
         let durable = self.durable();
@@ -208,7 +208,7 @@ impl WriterState {
     }
 
     /// Drops the batches that are in the tables of the manifest that it goes by, and, where all are, their prefixes.
-    pub(crate) fn forget_tabled(&mut self, alloc: Global)
+    pub(crate) fn drop_flushed(&mut self, alloc: Global)
         ensures { self.new ≡ kept_handle self.old }
     {
         let accepted = self.accepted();

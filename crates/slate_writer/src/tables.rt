@@ -42,17 +42,17 @@ impl WriterState {
     {
         let latest = current_manifest(alloc, store, self.epoch)?;
         if self.accepted() <= latest.manifest.last_l0_seq {
-            self.go_by_stored(latest);
+            self.adopt_stored(latest);
             return Ok(());
         }
         self.pack_tracker();
         match self.commit_table(alloc, store, &latest) {
             Ok(next) => {
-                self.go_by_stored(next);
+                self.adopt_stored(next);
                 Ok(())
             }
             Err(error) => {
-                self.go_by(latest);
+                self.adopt(latest);
                 Err(error)
             }
         }

@@ -8,7 +8,7 @@ use Rattle.slate_feed.proofs.sessions.answer.Goals as goal
 
 pub returns-in-Run-clause-leads : goal.returns-in-Run-clause-leads
 returns-in-Run-clause-leads g c = λ same fed s.
-    let led = c.apply-reply.ensures.link feed_settings (λ _. tt) (λ _. tt) (sym same) fed.world s.represents s.segments in
+    let led = c.apply-reply.ensures.link feed_settings (record { operator_is = λ _. tt; extractor_is = λ _. tt }) (sym same) fed.world s.represents s.segments in
     let then : Fed = record { world = led.0; cursors = fed.cursors } in (
       then,
       subst (λ command. FeedLink command (Replied c.apply-reply.result) fed then) (sym c.in-Run.is) (led.1, refl),

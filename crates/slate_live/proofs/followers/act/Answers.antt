@@ -15,13 +15,13 @@ use Rattle.slate_live.specs.Calls.{asks_extractor, asks_operator, call_of}
 use Rattle.slate_live.proofs.followers.act.Goals as goal
 
 pub returns-in-Get-clause-does : goal.returns-in-Get-clause-does
-returns-in-Get-clause-does g c settings writes lawful extracts = (0, rw c.in-Get.is (c.get.ensures.read settings.merge (λ open_. lawful (ap (asks_operator (Some (AFollower c.args.follower.now))) c.in-Get.is ∙ ap is_none open_)), refl {a = c.args.follower.now}, refl, refl {a = writes}))
+returns-in-Get-clause-does g c settings writes lawful = (0, rw c.in-Get.is (c.get.ensures.read settings.merge (λ open_. lawful.operator_is (ap (asks_operator (Some (AFollower c.args.follower.now))) c.in-Get.is ∙ ap is_none open_)), refl {a = c.args.follower.now}, refl, refl {a = writes}))
 
 pub returns-in-Scan-clause-does : goal.returns-in-Scan-clause-does
-returns-in-Scan-clause-does g c settings writes lawful extracts = (0, rw c.in-Scan.is (rw (sym c.as_ref.ensures) (c.scan.ensures.read settings.merge (λ open_. lawful (ap (asks_operator (Some (AFollower c.args.follower.now))) c.in-Scan.is ∙ ap is_none open_))), refl {a = c.args.follower.now}, refl, refl {a = writes}))
+returns-in-Scan-clause-does g c settings writes lawful = (0, rw c.in-Scan.is (rw (sym c.as_ref.ensures) (c.scan.ensures.read settings.merge (λ open_. lawful.operator_is (ap (asks_operator (Some (AFollower c.args.follower.now))) c.in-Scan.is ∙ ap is_none open_))), refl {a = c.args.follower.now}, refl, refl {a = writes}))
 
 pub returns-in-Seek-clause-does : goal.returns-in-Seek-clause-does
-returns-in-Seek-clause-does g c settings writes lawful extracts = (0, rw c.in-Seek.is (rw (sym c.as_ref-in-Seek.ensures) (c.seek.ensures.read settings.merge (λ open_. lawful (ap (asks_operator (Some (AFollower c.args.follower.now))) c.in-Seek.is ∙ ap is_none open_))), refl {a = c.args.follower.now}, refl, refl {a = writes}))
+returns-in-Seek-clause-does g c settings writes lawful = (0, rw c.in-Seek.is (rw (sym c.as_ref-in-Seek.ensures) (c.seek.ensures.read settings.merge (λ open_. lawful.operator_is (ap (asks_operator (Some (AFollower c.args.follower.now))) c.in-Seek.is ∙ ap is_none open_))), refl {a = c.args.follower.now}, refl, refl {a = writes}))
 
 -- a poll, by the command that asks it
 polls-by : {L : Type 0} (k : Knowledge L) (settings : Settings) (moment : ℤ) (action : Action) (n made : ℕ) (old : Follower) (before : Known L) (writes : List Write) (reply : Reply) (new : Follower) (after : Known L) → action ≡ actions.Poll n →
@@ -29,8 +29,8 @@ polls-by : {L : Type 0} (k : Knowledge L) (settings : Settings) (moment : ℤ) (
 polls-by k settings moment action n made old before writes reply new after is did = rw is (did, refl {a = writes})
 
 pub returns-in-Poll-clause-does : goal.returns-in-Poll-clause-does
-returns-in-Poll-clause-does g c settings writes lawful extracts =
-    let d = c.poll.ensures.does settings.extractor (λ open_. extracts (ap (asks_extractor (Some (AFollower c.args.follower.now))) c.in-Poll.is ∙ ap is_none open_)) in
+returns-in-Poll-clause-does g c settings writes lawful =
+    let d = c.poll.ensures.does settings.extractor (λ open_. lawful.extractor_is (ap (asks_extractor (Some (AFollower c.args.follower.now))) c.in-Poll.is ∙ ap is_none open_)) in
     let back : to_z w64 (of_z w64 c.args.command.now.moment) ≡ c.args.command.now.moment = search rules in
     let did = subst (λ m. PollsFollower (by_objects (g.S.Store.objects c.args.store.now)) settings.extractor d.0 m c.args.follower.now (known g.S.Store.objects g.S.Store.faults c.args.store.now) c.poll.result c.poll.new.follower (known g.S.Store.objects g.S.Store.faults c.poll.new.store)) back d.1 in
     (d.0, polls-by _ settings _ _ _ d.0 _ _ writes _ _ _ c.in-Poll.is did)

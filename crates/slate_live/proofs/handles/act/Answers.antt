@@ -16,31 +16,31 @@ use Rattle.slate_live.specs.declared.states.Write.{Write}
 use Rattle.slate_live.proofs.handles.act.Goals as goal
 
 pub returns-in-Flush-clause-does : goal.returns-in-Flush-clause-does
-returns-in-Flush-clause-does g c settings lawful extracts = let d = c.flush.ensures.does in (d.0, rw c.in-Flush.is (d.1, refl {a = c.args.writes.now.items}))
+returns-in-Flush-clause-does g c settings lawful = let d = c.flush.ensures.does in (d.0, rw c.in-Flush.is (d.1, refl {a = c.args.writes.now.items}))
 
 pub returns-in-Get-clause-does : goal.returns-in-Get-clause-does
-returns-in-Get-clause-does g c settings lawful extracts = (0, rw c.in-Get.is (c.get.ensures.read settings.merge (λ open_. lawful (ap (asks_operator (Some (AHandle c.args.writer.now))) c.in-Get.is ∙ ap is_none open_)), refl {a = c.args.writer.now}, refl, refl {a = c.args.writes.now.items}))
+returns-in-Get-clause-does g c settings lawful = (0, rw c.in-Get.is (c.get.ensures.read settings.merge (λ open_. lawful.operator_is (ap (asks_operator (Some (AHandle c.args.writer.now))) c.in-Get.is ∙ ap is_none open_)), refl {a = c.args.writer.now}, refl, refl {a = c.args.writes.now.items}))
 
 pub returns-in-Scan-clause-does : goal.returns-in-Scan-clause-does
-returns-in-Scan-clause-does g c settings lawful extracts = (0, rw c.in-Scan.is (rw (sym c.as_ref.ensures) (c.scan.ensures.read settings.merge (λ open_. lawful (ap (asks_operator (Some (AHandle c.args.writer.now))) c.in-Scan.is ∙ ap is_none open_))), refl {a = c.args.writer.now}, refl, refl {a = c.args.writes.now.items}))
+returns-in-Scan-clause-does g c settings lawful = (0, rw c.in-Scan.is (rw (sym c.as_ref.ensures) (c.scan.ensures.read settings.merge (λ open_. lawful.operator_is (ap (asks_operator (Some (AHandle c.args.writer.now))) c.in-Scan.is ∙ ap is_none open_))), refl {a = c.args.writer.now}, refl, refl {a = c.args.writes.now.items}))
 
 pub returns-in-Seek-clause-does : goal.returns-in-Seek-clause-does
-returns-in-Seek-clause-does g c settings lawful extracts = (0, rw c.in-Seek.is (rw (sym c.as_ref-in-Seek.ensures) (c.seek.ensures.read settings.merge (λ open_. lawful (ap (asks_operator (Some (AHandle c.args.writer.now))) c.in-Seek.is ∙ ap is_none open_))), refl {a = c.args.writer.now}, refl, refl {a = c.args.writes.now.items}))
+returns-in-Seek-clause-does g c settings lawful = (0, rw c.in-Seek.is (rw (sym c.as_ref-in-Seek.ensures) (c.seek.ensures.read settings.merge (λ open_. lawful.operator_is (ap (asks_operator (Some (AHandle c.args.writer.now))) c.in-Seek.is ∙ ap is_none open_))), refl {a = c.args.writer.now}, refl, refl {a = c.args.writes.now.items}))
 
 pub returns-in-Ts-clause-does : goal.returns-in-Ts-clause-does
-returns-in-Ts-clause-does g c settings lawful extracts = (0, rw c.in-Ts.is ((c.find_ts.result, c.find_ts.ensures, refl), refl {a = c.args.writer.now}, (refl, refl), refl {a = c.args.writes.now.items}))
+returns-in-Ts-clause-does g c settings lawful = (0, rw c.in-Ts.is ((c.find_ts.result, c.find_ts.ensures, refl), refl {a = c.args.writer.now}, (refl, refl), refl {a = c.args.writes.now.items}))
 
 pub returns-in-Seq-clause-does : goal.returns-in-Seq-clause-does
-returns-in-Seq-clause-does g c settings lawful extracts =
+returns-in-Seq-clause-does g c settings lawful =
     let back : to_z w64 (of_z w64 c.in-Seq.seconds) ≡ c.in-Seq.seconds = search rules in
     let tracker = c.args.writer.now.tracker in
     let found = subst (λ seconds. IsPartner int_cmp c.in-Seq.find seconds (times_of tracker) (numbers_of tracker) c.find_seq.result) back c.find_seq.ensures in
     (0, rw c.in-Seq.is ((c.find_seq.result, found, refl), refl {a = c.args.writer.now}, (refl, refl), refl {a = c.args.writes.now.items}))
 
 pub returns-else-is_none-clause-does : goal.returns-else-is_none-clause-does
-returns-else-is_none-clause-does g c settings lawful extracts =
-    let operator = lawful (ap (asks_operator (Some (AHandle c.args.writer.now))) c.in-Merge.is) in
-    let did = c.write.ensures settings.extractor (λ open_. extracts (ap (asks_extractor (Some (AHandle c.args.writer.now))) c.in-Merge.is ∙ ap is_none open_)) in
+returns-else-is_none-clause-does g c settings lawful =
+    let operator = lawful.operator_is (ap (asks_operator (Some (AHandle c.args.writer.now))) c.in-Merge.is) in
+    let did = c.write.ensures settings.extractor (λ open_. lawful.extractor_is (ap (asks_extractor (Some (AHandle c.args.writer.now))) c.in-Merge.is ∙ ap is_none open_)) in
     search rules
 
 -- a write, by the command that asks it
@@ -50,14 +50,14 @@ writes-by k settings n moment second call ops old new before writes writes' repl
     (0, subst (λ c. HandleActs k settings n moment second c 0 old before writes reply new before writes') (sym is) (did, (refl, refl)))
 
 pub returns-in-Put-clause-does : goal.returns-in-Put-clause-does
-returns-in-Put-clause-does g c settings lawful extracts =
+returns-in-Put-clause-does g c settings lawful =
     let h = c.args.writer.now in
     let action = c.args.command.now.action in
     elim c.in-Put.is [
       | inl put ↦ writes-by _ settings _ _ _ (call_of action) (ops_of action) h _ _ _ _ _ (ap call_of put.4 ∙ ap (λ a. WriteCall (ops_of a)) (sym put.4))
-          (c.write-in-Put.ensures settings.extractor (λ open_. extracts (ap (asks_extractor (Some (AHandle h))) put.4 ∙ ap is_none open_)))
+          (c.write-in-Put.ensures settings.extractor (λ open_. lawful.extractor_is (ap (asks_extractor (Some (AHandle h))) put.4 ∙ ap is_none open_)))
       | inr (inl delete) ↦ writes-by _ settings _ _ _ (call_of action) (ops_of action) h _ _ _ _ _ (ap call_of delete.2 ∙ ap (λ a. WriteCall (ops_of a)) (sym delete.2))
-          (c.write-in-Put.ensures settings.extractor (λ open_. extracts (ap (asks_extractor (Some (AHandle h))) delete.2 ∙ ap is_none open_)))
+          (c.write-in-Put.ensures settings.extractor (λ open_. lawful.extractor_is (ap (asks_extractor (Some (AHandle h))) delete.2 ∙ ap is_none open_)))
       | inr (inr batch) ↦ writes-by _ settings _ _ _ (call_of action) (ops_of action) h _ _ _ _ _ (ap call_of batch.2 ∙ ap (λ a. WriteCall (ops_of a)) (sym batch.2))
-          (c.write-in-Put.ensures settings.extractor (λ open_. extracts (ap (asks_extractor (Some (AHandle h))) batch.2 ∙ ap is_none open_)))
+          (c.write-in-Put.ensures settings.extractor (λ open_. lawful.extractor_is (ap (asks_extractor (Some (AHandle h))) batch.2 ∙ ap is_none open_)))
     ]

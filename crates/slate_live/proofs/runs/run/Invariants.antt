@@ -1,11 +1,9 @@
 use Rattle.std.proofs.Common.{◌≡◌, ◌≤◌, true, List, Some, length, take, vec_len, vec_capacity}
 use Rattle.std.specs.Option.{option_copied}
-use Rattle.slate_reads.specs.Read.{IsOperator}
 use Rattle.slate_store.specs.Objects.{Objects}
 use Rattle.slate_store.specs.Content.{IsSound}
 use Rattle.slate_model.specs.Known.{known}
-use Rattle.slate_model.specs.Segments.{IsExtractor}
-use Rattle.slate_live.specs.Calls.{one_goes_by_extractor, one_goes_by_operator}
+use Rattle.slate_live.specs.Lawful.{AreLawful, asks_in}
 use Rattle.slate_live.specs.Run.{DoAll, none_live}
 use Rattle.slate_live.specs.Steps.{Step, last_world}
 use Rattle.slate_live.specs.Represents.{AllInSegments, Represents}
@@ -22,10 +20,10 @@ invariant-loop-command g l =
       count : vec_len l.replies ≡ l.command-index;
       room : length l.commands ≤ vec_capacity l.replies;
       options : l.live.options ≡ l.options;
-      does : (settings : Settings) → (one_goes_by_operator l.commands ≡ true → IsOperator g.M.MergeOperator.may_answer (option_copied l.operator) settings.merge) → (one_goes_by_extractor l.commands ≡ true → IsExtractor g.E.PrefixExtractor.may_name g.E.PrefixExtractor.may_extract (option_copied l.extractor) settings.extractor) → settings.options ≡ l.options →
+      does : (settings : Settings) → AreLawful g.M.MergeOperator.may_answer (option_copied l.operator) g.E.PrefixExtractor.may_name g.E.PrefixExtractor.may_extract (option_copied l.extractor) settings (asks_in l.commands) → settings.options ≡ l.options →
           DoAll settings (none_live settings.options) (known g.S.Store.objects g.S.Store.faults l.fn.store)
           (take l.command-index l.commands) l.replies.items l.live (known g.S.Store.objects g.S.Store.faults l.store);
-      leads : (settings : Settings) → (one_goes_by_operator l.commands ≡ true → IsOperator g.M.MergeOperator.may_answer (option_copied l.operator) settings.merge) → (one_goes_by_extractor l.commands ≡ true → IsExtractor g.E.PrefixExtractor.may_name g.E.PrefixExtractor.may_extract (option_copied l.extractor) settings.extractor) → settings.options ≡ l.options →
+      leads : (settings : Settings) → AreLawful g.M.MergeOperator.may_answer (option_copied l.operator) g.E.PrefixExtractor.may_name g.E.PrefixExtractor.may_extract (option_copied l.extractor) settings (asks_in l.commands) → settings.options ≡ l.options →
           (before : Objects) → g.S.Store.objects l.fn.store ≡ Some before → IsSound before →
           (steps : List Step) × Done settings (start before (g.S.Store.faults l.fn.store)) (take l.command-index l.commands) l.replies.items steps
           × Represents l.live (known g.S.Store.objects g.S.Store.faults l.store) (last_world (start before (g.S.Store.faults l.fn.store)) steps)

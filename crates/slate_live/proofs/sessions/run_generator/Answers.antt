@@ -53,9 +53,9 @@ returns-clause-ends g c left faults =
         accepted = refl;
         source = record { left = refl; source_faults = refl };
         done = subst (λ commands. DidAll generator_settings commands c.finished-2.result.replies before after) commands
-            (subst (λ replies. DidAll generator_settings c.as_slice.result.now replies before after) (sym c.finished-2.ensures.replies) (c.in-Ok-run.ensures.does generator_settings (λ _. lawful) (λ _. tt) same));
+            (subst (λ replies. DidAll generator_settings c.as_slice.result.now replies before after) (sym c.finished-2.ensures.replies) (c.in-Ok-run.ensures.does generator_settings (record { operator_is = λ _. lawful; extractor_is = λ _. tt }) same));
         run = subst (λ commands. IsRun generator_settings commands c.finished-2.result.replies before after) commands
-            (subst (λ replies. IsRun generator_settings c.as_slice.result.now replies before after) (sym c.finished-2.ensures.replies) (c.in-Ok-run.ensures.leads generator_settings (λ _. lawful) (λ _. tt) same));
+            (subst (λ replies. IsRun generator_settings c.as_slice.result.now replies before after) (sym c.finished-2.ensures.replies) (c.in-Ok-run.ensures.leads generator_settings (record { operator_is = λ _. lawful; extractor_is = λ _. tt }) same));
         writing = subst (λ count. EndsWriting c.write_summary-ending.result (summary_text count c.finished-2.result.replies) written written-after failed failed-after) counted
             (subst (λ replies. EndsWriting c.write_summary-ending.result (summary_text c.len.result replies) written written-after failed failed-after) replied c.write_summary-ending.ensures.writes);
       }))),

@@ -61,9 +61,9 @@ returns-clause-ends g c =
           runs = record {
             text_is = refl;
             done = subst (λ commands. DidAll (settings_of words) commands c.finished-2.result.replies before after) c.as_slice.ensures.value
-                (subst (λ replies. DidAll (settings_of words) c.as_slice.result.now replies before after) (sym c.finished-2.ensures.replies) (c.in-Ok-run.ensures.does (settings_of words) (λ _. lawful) (λ _. cuts) refl));
+                (subst (λ replies. DidAll (settings_of words) c.as_slice.result.now replies before after) (sym c.finished-2.ensures.replies) (c.in-Ok-run.ensures.does (settings_of words) (record { operator_is = λ _. lawful; extractor_is = λ _. cuts }) refl));
             run = subst (λ commands. IsRun (settings_of words) commands c.finished-2.result.replies before after) c.as_slice.ensures.value
-                (subst (λ replies. IsRun (settings_of words) c.as_slice.result.now replies before after) (sym c.finished-2.ensures.replies) (c.in-Ok-run.ensures.leads (settings_of words) (λ _. lawful) (λ _. cuts) refl));
+                (subst (λ replies. IsRun (settings_of words) c.as_slice.result.now replies before after) (sym c.finished-2.ensures.replies) (c.in-Ok-run.ensures.leads (settings_of words) (record { operator_is = λ _. lawful; extractor_is = λ _. cuts }) refl));
           };
           writing = subst (λ replies. EndsWriting c.write_replies-ending.result (replies_text replies) (g.O.Sink.written c.args.sink.now) (g.O.Sink.written c.write_replies-ending.new.sink) (g.O.Sink.faults c.args.sink.now) (g.O.Sink.faults c.write_replies-ending.new.sink)) same c.write_replies-ending.ensures.writes;
         };

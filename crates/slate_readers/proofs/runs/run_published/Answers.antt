@@ -45,14 +45,14 @@ loop-command-preserved g c =
       options = c.apply-reply.ensures.options ∙ c.loop-command.invariant.options;
       origin = c.show.ensures.origin ∙ c.loop-command.invariant.origin;
       does = λ settings lawful extracts options_are.
-          let done = c.apply-reply.ensures.does settings (λ _. lawful) (λ _. extracts) (options_are ∙ sym c.loop-command.invariant.options) in
+          let done = c.apply-reply.ensures.does settings (record { operator_is = λ _. lawful; extractor_is = λ _. extracts }) (options_are ∙ sym c.loop-command.invariant.options) in
           let all = c.commands_lead_on.ensures.done settings (none_live settings.options) c.loop-command.live c.apply-reply.new.self (known g.S.Store.objects g.S.Store.faults c.args.store.now) store store' (take i c.args.commands.now) c.loop-command.replies.items command reply
           (c.loop-command.invariant.does settings lawful extracts options_are) done in
           subst (λ cs. DoAll settings (none_live settings.options) (known g.S.Store.objects g.S.Store.faults c.args.store.now) cs c.push_reserved.new.self.items c.apply-reply.new.self store') (sym more)
           (subst (λ rs. DoAll settings (none_live settings.options) (known g.S.Store.objects g.S.Store.faults c.args.store.now) (take i c.args.commands.now ++ command ∷ []) rs c.apply-reply.new.self store') (sym c.push_reserved.ensures.items) all);
       leads = λ settings lawful extracts options_are before is sound.
           let prev = c.loop-command.invariant.leads settings lawful extracts options_are before is sound in
-          let link = c.apply-reply.ensures.link settings (λ _. lawful) (λ _. extracts) (options_are ∙ sym c.loop-command.invariant.options) _ (prev.led).represents (prev.led).segments in
+          let link = c.apply-reply.ensures.link settings (record { operator_is = λ _. lawful; extractor_is = λ _. extracts }) (options_are ∙ sym c.loop-command.invariant.options) _ (prev.led).represents (prev.led).segments in
           let next = publishing-next c.commands_lead_on.ensures.each settings before (g.S.Store.faults c.args.store.now) (take i c.args.commands.now) c.loop-command.replies.items c.loop-command.live store c.loop-command.broadcast prev command reply link.0 c.apply-reply.new.self store' c.show.new.self
           link.1 link.2 link.3 c.show.ensures.place c.show.ensures.whole (c.show.ensures.shows store' link.0 link.2) in
           subst (λ cs. IsPublishing settings before (g.S.Store.faults c.args.store.now) cs c.push_reserved.new.self.items c.apply-reply.new.self store' c.show.new.self) (sym more)

@@ -36,14 +36,14 @@ read-at objects n old x at is = ap (read_by objects) at ∙ by old is
     by (AFollower f) is = absurd (cc)
 
 pub returns-clause-does : goal.returns-clause-does
-returns-clause-does g c settings lawful extracts =
+returns-clause-does g c settings lawful =
     let objects = c.args.self.now.objects in
     let old = object_of c.index_mut-object.result.now in
     let there = read-old objects c.args.number (object_of c.index.result.now) old
     (rw (← c.self.view_is) (get-map_at object_of c.self.inside.objects.items c.args.number c.index.result.now (omega (arith, c.len.ensures)) c.index.ensures))
     (rw (← c.self.view_is) (get-map_at object_of c.self.inside.objects.items c.args.number c.index_mut-object.result.now (omega (arith, c.len.ensures)) c.index_mut-object.ensures.value))
     (sym c.snapshot.ensures ∙ none-of c.snapshot.result c.in_default.not-Some) in
-    let d = c.act.ensures.does settings (λ asks. lawful (subst (λ o. asks_operator o c.args.command.now.action ≡ true) (sym there) asks)) (λ asks. extracts (subst (λ o. asks_extractor o c.args.command.now.action ≡ true) (sym there) asks)) in
+    let d = c.act.ensures.does settings (record { operator_is = λ asks. lawful.operator_is (subst (λ o. asks_operator o c.args.command.now.action ≡ true) (sym there) asks); extractor_is = λ asks. lawful.extractor_is (subst (λ o. asks_extractor o c.args.command.now.action ≡ true) (sym there) asks) }) in
     rw (← c.self.view_is) (
       d.0,
       acts_on _ settings c.args.number c.args.command.now (call_of c.args.command.now.action) d.0 _ _ c.act.result _ _ _ (get-map_at object_of c.self.inside.objects.items c.args.number c.index_mut-object.result.now (omega (arith, c.len.ensures)) c.index_mut-object.ensures.value) d.1
@@ -51,11 +51,11 @@ returns-clause-does g c settings lawful extracts =
     )
 
 pub returns-in-Some-clause-does : goal.returns-in-Some-clause-does
-returns-in-Some-clause-does g c settings lawful extracts = (
+returns-in-Some-clause-does g c settings lawful = (
   0,
   on-snapshot (by_objects (g.S.Store.objects c.args.store.now)) settings c.args.number c.args.command.now (call_of c.args.command.now.action) 0 (slice_get c.args.self.now.objects c.args.number) (running c.args.self.now (known g.S.Store.objects g.S.Store.faults c.args.store.now)) c.act_at.result (running c.args.self.now (known g.S.Store.objects g.S.Store.faults c.act_at.new.store)) (object_of c.index.result.now) c.in-Some.snapshot
       (rw (← c.self.view_is) (get-map_at object_of c.self.inside.objects.items c.args.number c.index.result.now (omega (arith, c.len.ensures)) c.index.ensures))
-      (sym c.snapshot.ensures ∙ c.in-Some.is) (c.act_at.ensures.does settings (λ asks. lawful (subst (λ o. asks_operator o c.args.command.now.action ≡ true) (sym (read-at c.args.self.now.objects c.args.number (object_of c.index.result.now) c.in-Some.snapshot (rw (← c.self.view_is) (get-map_at object_of c.self.inside.objects.items c.args.number c.index.result.now (omega (arith, c.len.ensures)) c.index.ensures)) (sym c.snapshot.ensures ∙ c.in-Some.is))) asks))),
+      (sym c.snapshot.ensures ∙ c.in-Some.is) (c.act_at.ensures.does settings (λ asks. lawful.operator_is (subst (λ o. asks_operator o c.args.command.now.action ≡ true) (sym (read-at c.args.self.now.objects c.args.number (object_of c.index.result.now) c.in-Some.snapshot (rw (← c.self.view_is) (get-map_at object_of c.self.inside.objects.items c.args.number c.index.result.now (omega (arith, c.len.ensures)) c.index.ensures)) (sym c.snapshot.ensures ∙ c.in-Some.is))) asks))),
 )
 
 pub returns-clause-calls : goal.returns-clause-calls

@@ -23,7 +23,7 @@ returns-in-Ok-clause-stored g c =
     let put = c.in-Ok.ensures.put in
     let moved = packed-moved h latest _ q_is after c.commit_table.ensures.moved in
     table_ok _ h _ _ latest c.current_manifest.ensures.kept (search (rules, c.in_ok-latest.ensures.where_modelled)) (search rules) after _ c.in-Ok.next put.0 moved.0 moved.1
-    (c.go_by_stored-in-Ok.ensures ∙ ap (λ n. record after { durable = n; view = c.in-Ok.next }) (ap accepted moved.0))
+    (c.adopt_stored-in-Ok.ensures ∙ ap (λ n. record after { durable = n; view = c.in-Ok.next }) (ap accepted moved.0))
     (packed-counter h latest _ q_is _ c.commit_table.ensures.counter) (packed-again h latest _ q_is c.in-Ok.ensures.again) (packed-commits h latest _ q_is _ _ c.in-Ok.ensures.commits)
     (search rules) (packed-makes h latest _ q_is _ _ _ _ put.0 put.2)
 
@@ -36,5 +36,5 @@ returns-in-Err-clause-stored g c =
     let put = c.in-Err.ensures.put in
     let moved = packed-moved h latest _ q_is after c.commit_table.ensures.moved in
     table_err _ h _ _ latest c.current_manifest.ensures.kept (search (rules, c.in_ok-latest.ensures.where_modelled)) (search rules) after _ _ put.0 moved.0 moved.1
-    c.go_by.ensures (packed-counter h latest _ q_is _ c.commit_table.ensures.counter) (packed-durable h latest _ q_is put.0 _ _ put.1)
+    c.adopt.ensures (packed-counter h latest _ q_is _ c.commit_table.ensures.counter) (packed-durable h latest _ q_is put.0 _ _ put.1)
     (search rules) (packed-makes h latest _ q_is _ _ _ _ put.0 put.2)

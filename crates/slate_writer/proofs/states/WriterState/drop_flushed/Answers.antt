@@ -13,7 +13,7 @@ use Rattle.slate_segments.proofs.Prefixes.{rising-kept}
 use Rattle.slate_status.specs.Segments.{AreRising}
 use Rattle.std.specs.Prelude.{Vec}
 use Rattle.std.specs.declared.alloc.Global.{Global}
-use Rattle.slate_writer.proofs.states.WriterState.forget_tabled.Goals as goal
+use Rattle.slate_writer.proofs.states.WriterState.drop_flushed.Goals as goal
 
 pub overflow_sub-self : goal.overflow_sub-self
 overflow_sub-self c =

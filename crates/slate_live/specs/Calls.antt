@@ -170,12 +170,16 @@ one_goes_by_operator commands = list_any (λ (command : Command). goes_by_operat
 abbrev pub one_goes_by_extractor : List Command → Bool
 one_goes_by_extractor commands = list_any (λ (command : Command). goes_by_extractor command.action) commands
 
+-- what of a call reads a handle, up to the number of a snapshot, where one is given
+abbrev pub read_of : Option ℕ → Call → Call
+read_of number (Get key remote snapshot) = Get key remote number
+read_of number (Scan range order remote snapshot) = Scan range order remote number
+read_of number (Seek range take key order remote snapshot) = Seek range take key order remote number
+read_of number call = Nothing
+
 -- what a snapshot of a handle asks the handle: to read up to the snapshot's number
 abbrev pub at_snapshot : ℕ → Call → Call
-at_snapshot number (Get key remote snapshot) = Get key remote (Some number)
-at_snapshot number (Scan range order remote snapshot) = Scan range order remote (Some number)
-at_snapshot number (Seek range take key order remote snapshot) = Seek range take key order remote (Some number)
-at_snapshot number call = Nothing
+at_snapshot number call = read_of (Some number) call
 
 -- the object whose tables are read: the one that is named, or the handle of a snapshot
 abbrev pub read_by : List Object → Option Object → Option Object

@@ -13,7 +13,7 @@ ghost use Rattle.slate_model.specs.Status.{handle_status};
 ghost use Rattle.slate_model.specs.Write.{Writes};
 ghost use Rattle.slate_live.specs.Lawful.{AreLawful, asks_of};
 ghost use Rattle.slate_live.specs.Settings.{Settings};
-ghost use Rattle.slate_live.specs.Calls.{asks_operator, at_snapshot, call_of, flush_of_close, most_asked, ops_of};
+ghost use Rattle.slate_live.specs.Calls.{asks_operator, call_of, flush_of_close, most_asked, ops_of, read_of};
 ghost use Rattle.slate_live.specs.declared.states.Write.{Write as AWrite};
 ghost use Rattle.slate_live.specs.Handles.{ClosesHandle, CompactsHandle, FlushesHandle, GetsFrom, HandleActs, IsPlainScan, RefreshesHandle};
 ghost use Rattle.slate_live.specs.Handles.{TakesFrom, WritesTo, durable_reply, flush_type_by, level_of, noted};
@@ -67,44 +67,8 @@ pub(crate) fn act<S: Store, M: MergeOperator, E: PrefixExtractor>(
         Action::Flush { flush_type, .. } => flush(writer, alloc, store, *flush_type),
         Action::Refresh { .. } => refresh(writer, alloc, store),
         Action::Compact { .. } => compact(writer, alloc, store),
-        Action::Get { key, remote, .. } => {
-            get(writer, alloc, store, key, *remote, None, operator)
-        }
-        Action::Scan {
-            range,
-            order,
-            remote,
-            ..
-        } => scan(
-            writer,
-            alloc,
-            store,
-            range.as_ref(),
-            *order,
-            *remote,
-            None,
-            operator,
-        ),
-        Action::Seek {
-            range,
-            take,
-            key,
-            order,
-            remote,
-            ..
-        } => {
-            let from = (*take, key);
-            seek(
-                writer,
-                alloc,
-                store,
-                range.as_ref(),
-                from,
-                *order,
-                *remote,
-                None,
-                operator,
-            )
+        Action::Get { .. } | Action::Scan { .. } | Action::Seek { .. } => {
+            read(writer, alloc, store, None, operator, command)
         }
         Action::Close { options, .. } => close(writer, alloc, store, *options),
         Action::Status { .. } => status(writer, alloc),
@@ -114,13 +78,13 @@ pub(crate) fn act<S: Store, M: MergeOperator, E: PrefixExtractor>(
     }
 }
 
-/// Does a command that names a snapshot of the handle: it reads up to the snapshot's number. Nothing else is asked of a
+/// Does what of a command reads the handle, up to the number of a snapshot, where one is given. Nothing else is asked of a
 /// snapshot.
-pub(crate) fn act_at<S: Store, M: MergeOperator>(
+pub(crate) fn read<S: Store, M: MergeOperator>(
     writer: &WriterState,
     alloc: Global,
     store: &mut S,
-    snapshot: u64,
+    snapshot: Option<u64>,
     operator: Option<&M>,
     command: &Command,
 ) -> Reply
@@ -129,12 +93,12 @@ pub(crate) fn act_at<S: Store, M: MergeOperator>(
         S.calls store.new ≤ S.calls store.old + most_asked o (Some (AHandle writer.now)) (call_of command.now.action)) }
     ensures untouched { (writer.now.result ≡ None → ⊥) → store.new ≡ store.old }
     ensures does { (settings : Settings) (handle : ℕ) (writes : List AWrite) → (asks_operator (Some (AHandle writer.now)) command.now.action ≡ true → IsOperator M.may_answer (option_copied operator.entry) settings.merge) →
-        HandleActs (by_objects (S.objects store.old)) settings handle command.now.moment command.now.second (at_snapshot snapshot (call_of command.now.action)) 0
+        HandleActs (by_objects (S.objects store.old)) settings handle command.now.moment command.now.second (read_of snapshot (call_of command.now.action)) 0
         writer.now (known S.objects S.faults store.old) writes result writer.now (known S.objects S.faults store.new) writes }
 {
     match &command.action {
         Action::Get { key, remote, .. } => {
-            get(writer, alloc, store, key, *remote, Some(snapshot), operator)
+            get(writer, alloc, store, key, *remote, snapshot, operator)
         }
         Action::Scan {
             range,
@@ -148,7 +112,7 @@ pub(crate) fn act_at<S: Store, M: MergeOperator>(
             range.as_ref(),
             *order,
             *remote,
-            Some(snapshot),
+            snapshot,
             operator,
         ),
         Action::Seek {
@@ -168,7 +132,7 @@ pub(crate) fn act_at<S: Store, M: MergeOperator>(
                 from,
                 *order,
                 *remote,
-                Some(snapshot),
+                snapshot,
                 operator,
             )
         }

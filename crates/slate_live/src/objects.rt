@@ -132,7 +132,7 @@ impl Object {
     {
         match self {
             Object::Handle(writer) => {
-                handles::act_at(writer, alloc, store, snapshot, operator, command)
+                handles::read(writer, alloc, store, Some(snapshot), operator, command)
             }
             _ => Reply::Unknown,
         }

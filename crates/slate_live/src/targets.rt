@@ -8,9 +8,13 @@ use slate_store::DbReaderMode;
 /// Where a command goes.
 pub enum Target {
     /// It opens a handle, which keeps a log or not.
-    NewHandle { keeps_log: bool },
+    NewHandle {
+        keeps_log: bool,
+    },
     /// It opens a snapshot of the handle with this number.
-    NewSnapshot { handle: u64 },
+    NewSnapshot {
+        handle: u64,
+    },
     /// It opens a reader in a mode, which skips log files or not, may lag by so many numbers, and has a lifetime and an
     /// interval, in milliseconds, where it keeps a checkpoint.
     NewFollower {
@@ -20,13 +24,19 @@ pub enum Target {
         lag: Option<u64>,
     },
     /// It commits a checkpoint of the store, with a lifetime in milliseconds or without an end.
-    NewCheckpoint { lifetime: Option<u64> },
+    NewCheckpoint {
+        lifetime: Option<u64>,
+    },
     /// It sweeps the store.
     WholeStore,
     /// It asks for the write with this number.
-    OfWrite { write: u64 },
+    OfWrite {
+        write: u64,
+    },
     /// It names the object with this number.
-    OfObject { object: u64 },
+    OfObject {
+        object: u64,
+    },
 }
 
 /// Where a command goes.

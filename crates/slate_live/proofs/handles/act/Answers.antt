@@ -1,4 +1,4 @@
-use Rattle.std.proofs.Common.{rules, ◌≡◌, ◌∙◌, inl, inr, ℕ, ℤ, List, Option, Some, ap, refl, sym, subst, w64, to_z, of_z}
+use Rattle.std.proofs.Common.{rules, ◌≡◌, ◌∙◌, inl, inr, ℕ, ℤ, List, Option, Some, None, ap, refl, sym, subst, w64, to_z, of_z}
 use Rattle.std.specs.Ordering.{int_cmp}
 use Rattle.slate_seqtrack.specs.Lookup.{IsPartner}
 use Rattle.slate_seqtrack.specs.Tracker.{numbers_of, times_of}
@@ -9,7 +9,7 @@ use Rattle.slate_model.specs.Handle.{Handle}
 use Rattle.slate_model.specs.Knowledge.{Knowledge}
 use Rattle.slate_model.specs.Known.{Known}
 use Rattle.slate_script.specs.declared.replies.Reply.{Reply}
-use Rattle.slate_live.specs.Calls.{Call, Write as WriteCall, asks_extractor, asks_operator, call_of, ops_of}
+use Rattle.slate_live.specs.Calls.{Call, Write as WriteCall, asks_extractor, asks_operator, call_of, ops_of, read_of}
 use Rattle.slate_live.specs.Handles.{HandleActs, WritesTo}
 use Rattle.slate_live.specs.Settings.{Settings}
 use Rattle.slate_live.specs.declared.states.Write.{Write}
@@ -18,14 +18,19 @@ use Rattle.slate_live.proofs.handles.act.Goals as goal
 pub returns-in-Flush-clause-does : goal.returns-in-Flush-clause-does
 returns-in-Flush-clause-does g c settings lawful = let d = c.flush.ensures.does in (d.0, rw c.in-Flush.is (d.1, refl {a = c.args.writes.now.items}))
 
+-- a read of the handle, by the command that asks it
+reads-by : {L : Type 0} (k : Knowledge L) (settings : Settings) (n : ℕ) (moment : ℤ) (second : Option ℤ) (call call' : Call) (old : Handle) (before : Known L) (writes : List Write) (reply : Reply) (after : Known L) → call' ≡ call →
+    HandleActs k settings n moment second call' 0 old before writes reply old after writes → (made : ℕ) × HandleActs k settings n moment second call made old before writes reply old after writes
+reads-by k settings n moment second call call' old before writes reply after same did = (0, subst (λ c. HandleActs k settings n moment second c 0 old before writes reply old after writes) same did)
+
 pub returns-in-Get-clause-does : goal.returns-in-Get-clause-does
-returns-in-Get-clause-does g c settings lawful = (0, rw c.in-Get.is (c.get.ensures.read settings.merge (λ open_. lawful.operator_is (ap (asks_operator (Some (AHandle c.args.writer.now))) c.in-Get.is ∙ ap is_none open_)), refl {a = c.args.writer.now}, refl, refl {a = c.args.writes.now.items}))
-
-pub returns-in-Scan-clause-does : goal.returns-in-Scan-clause-does
-returns-in-Scan-clause-does g c settings lawful = (0, rw c.in-Scan.is (rw (sym c.as_ref.ensures) (c.scan.ensures.read settings.merge (λ open_. lawful.operator_is (ap (asks_operator (Some (AHandle c.args.writer.now))) c.in-Scan.is ∙ ap is_none open_))), refl {a = c.args.writer.now}, refl, refl {a = c.args.writes.now.items}))
-
-pub returns-in-Seek-clause-does : goal.returns-in-Seek-clause-does
-returns-in-Seek-clause-does g c settings lawful = (0, rw c.in-Seek.is (rw (sym c.as_ref-in-Seek.ensures) (c.seek.ensures.read settings.merge (λ open_. lawful.operator_is (ap (asks_operator (Some (AHandle c.args.writer.now))) c.in-Seek.is ∙ ap is_none open_))), refl {a = c.args.writer.now}, refl, refl {a = c.args.writes.now.items}))
+returns-in-Get-clause-does g c settings lawful =
+    let same : read_of None (call_of c.args.command.now.action) ≡ call_of c.args.command.now.action = elim c.in-Get.is [
+      | inl get ↦ ap (λ a. read_of None (call_of a)) get.3 ∙ sym (ap call_of get.3)
+      | inr (inl scan) ↦ ap (λ a. read_of None (call_of a)) scan.4 ∙ sym (ap call_of scan.4)
+      | inr (inr seek) ↦ ap (λ a. read_of None (call_of a)) seek.6 ∙ sym (ap call_of seek.6)
+    ] in
+    reads-by _ settings _ _ _ (call_of c.args.command.now.action) _ c.args.writer.now _ _ c.read.result _ same (c.read.ensures.does settings c.args.number c.args.writes.now.items lawful.operator_is)
 
 pub returns-in-Ts-clause-does : goal.returns-in-Ts-clause-does
 returns-in-Ts-clause-does g c settings lawful = (0, rw c.in-Ts.is ((c.find_ts.result, c.find_ts.ensures, refl), refl {a = c.args.writer.now}, (refl, refl), refl {a = c.args.writes.now.items}))

@@ -2,7 +2,7 @@ use Rattle.std.proofs.Common.{◌∙◌, Some, ap, refl, sym}
 use Rattle.std.specs.Option.{is_none}
 use Rattle.slate_model.specs.Object.{Handle as AHandle}
 use Rattle.slate_live.specs.Calls.{asks_operator}
-use Rattle.slate_live.proofs.handles.act_at.Goals as goal
+use Rattle.slate_live.proofs.handles.read.Goals as goal
 
 pub returns-in-Get-clause-does : goal.returns-in-Get-clause-does
 returns-in-Get-clause-does g c settings handle writes lawful = rw c.in-Get.is (c.get.ensures.read settings.merge (λ open_. lawful (ap (asks_operator (Some (AHandle c.args.writer.now))) c.in-Get.is ∙ ap is_none open_)), refl {a = c.args.writer.now}, refl, refl {a = writes})

@@ -4,8 +4,10 @@ use Rattle.std.specs.Option.{IfSome, option_or}
 use Rattle.std.specs.Result.{IfErr}
 use Rattle.slate_types.specs.declared.batches.Batch.{Batch}
 use Rattle.slate_types.specs.declared.batches.KeyOp.{KeyOp}
+use Rattle.slate_types.specs.declared.batches.KeyValue.{KeyValue}
 use Rattle.slate_types.specs.declared.read_faults.ReadFault.{ReadFault}
 use Rattle.slate_store.specs.declared.objects.TableId.{TableId}
+use Rattle.slate_rows.specs.Iteration.{Iteration}
 use Rattle.slate_store.specs.declared.reader_modes.DbReaderMode.{DbReaderMode}
 use Rattle.slate_errors.specs.Errors.{closed_error}
 use Rattle.slate_errors.specs.declared.closing.CloseFault.{CloseFault}
@@ -15,7 +17,7 @@ use Rattle.slate_model.specs.Handle.{CloseResult, Handle}
 use Rattle.slate_model.specs.Knowledge.{Knowledge}
 use Rattle.slate_model.specs.Known.{Known, Untouched}
 use Rattle.slate_model.specs.Object.{Object}
-use Rattle.slate_model.specs.Read.{Reads, ReadsByAny}
+use Rattle.slate_model.specs.Read.{Gives, Reads, ReadsByAny}
 use Rattle.slate_model.specs.Segments.{Extractor}
 use Rattle.slate_model.specs.Write.{Writes, WritesByAny, closed_refusal}
 use Rattle.slate_model.specs.declared.answers.PollAnswer.{PollAnswer}
@@ -23,10 +25,12 @@ use Rattle.slate_model.specs.declared.answers.Written.{Written}
 use Rattle.slate_script.specs.declared.commands.Action.{Action}
 use Rattle.slate_script.specs.declared.commands.Action.TheVariants as actions
 use Rattle.slate_script.specs.declared.replies.Reply.{Reply}
+use Rattle.slate_script.specs.declared.replies.Reply.TheVariants as replies
 use Rattle.slate_live.specs.Calls.{asks_extractor, named, read_by, target_of}
 use Rattle.slate_live.specs.declared.targets.Target.TheVariants.{NewFollower, NewHandle}
 use Rattle.slate_live.specs.Followers.{PollsAs, PollsFollower}
 use Rattle.slate_live.specs.Replies.{polled_reply, reply_to}
+use Rattle.slate_live.specs.Scans.{IsTaken, Takes}
 use Rattle.slate_live.proofs.Cases.{some-of}
 
 -- a read of what may be closed
@@ -34,6 +38,11 @@ pub either-reads : {L A : Type 0} {tables : List TableId} {has_rows : List Batch
     (closed ≡ None → Reads closed tables has_rows is_plain before answer after) → ReadsByAny closed tables before answer after → Reads closed tables has_rows is_plain before answer after
 either-reads None open_ any = open_ refl
 either-reads (Some r) open_ any = record { closed = any.closed; read = λ no. absurd (cc) }
+
+-- what is taken of a scan, and its reply
+pub taken-of : {L : Type 0} {closed : CloseResult} {tables : List TableId} {has_rows : List Batch → Type 0} {is_scan : List Batch → Iteration → Type 0} {taken : Iteration → Result (List KeyValue) SlateError} {before after : Known L} (scan : Result Iteration SlateError) (result : Result (List KeyValue) SlateError) (reply : Reply) →
+    Reads closed tables has_rows (Gives is_scan) before scan after → Takes taken scan result → reply ≡ reply_to replies.Rows result → IsTaken closed tables has_rows is_scan taken before reply after
+taken-of scan result reply scans takes replied = record { scan = scan; result = result; scans = scans; takes = takes; replied = replied }
 
 first-refusal : (r : Result (Unit {0}) CloseFault) (q : CloseResult) (rest : Option SlateError) → q ≡ Some r → option_or (closed_refusal q) rest ≡ Some (closed_error r)
 first-refusal r q rest is = subst (λ (p : CloseResult). option_or (closed_refusal p) rest ≡ Some (closed_error r)) (sym is) refl

@@ -1,8 +1,6 @@
 // What commands do to a reader that follows a database.
-ghost use Rattle.std.specs.Prelude.{◌≡◌, ◌≤◌, ◌+◌, ℕ, None, Some, length, List, Option, IfSome, true, false};
+ghost use Rattle.std.specs.Prelude.{◌≡◌, ◌≤◌, ◌+◌, ℕ, None, Some, List, Option, IfSome, true, false};
 ghost use Rattle.std.specs.Option.{option_copied};
-ghost use Rattle.slate_types.specs.Operator.{Merge};
-ghost use Rattle.slate_reads.specs.Read.{IsOperator};
 ghost use Rattle.slate_model.specs.Known.{known};
 ghost use Rattle.slate_model.specs.Follower.{is_managed};
 ghost use Rattle.slate_model.specs.Object.{Follower as AFollower};
@@ -13,18 +11,16 @@ ghost use Rattle.slate_model.specs.Segments.{Extractor, IsExtractor};
 ghost use Rattle.slate_live.specs.Lawful.{AreLawful, asks_of};
 ghost use Rattle.slate_live.specs.Settings.{Settings};
 ghost use Rattle.slate_live.specs.Calls.{call_of, end_calls, ends_poll, most_asked, poll_calls};
-ghost use Rattle.slate_live.specs.Followers.{ClosesFollower, FollowerActs, GetsFromFollower, PollsFollower, TakesFromFollower};
+ghost use Rattle.slate_live.specs.Followers.{ClosesFollower, FollowerActs, PollsFollower};
 ghost use Rattle.slate_live.specs.Replies.{AnswersStatus, follower_closed_reply, polled_reply};
-ghost use Rattle.slate_live.specs.Scans.{scanned, sought};
 
 use crate::handles::{read_reply, refusal, status_reply};
 use crate::scans::{all_rows, rows_reply, rows_with_seek};
-use bytes::Bytes;
 use slate_errors::Ended;
 use slate_follow::{FollowerState, PollAnswer};
 use slate_script::{Action, Command, Reply};
 use slate_store::Store;
-use slate_types::{ByteRange, IterationOrder, MergeOperator, PrefixExtractor};
+use slate_types::{MergeOperator, PrefixExtractor};
 use std::alloc::Global;
 
 /// Does a command that names the reader.
@@ -45,9 +41,12 @@ pub(crate) fn act<S: Store, M: MergeOperator, E: PrefixExtractor>(
     ensures stays { ends_poll command.now.action ≡ false → follower.new ≡ follower.old }
 {
     match &command.action {
-        Action::Get { key, .. } => get(follower, alloc, store, key, operator),
+        Action::Get { key, .. } => {
+            read_reply(follower.get(alloc, store, key.as_slice(), operator))
+        }
         Action::Scan { range, order, .. } => {
-            scan(follower, alloc, store, range.as_ref(), *order, operator)
+            let scan = follower.scan(alloc, store, range.as_ref(), *order, operator);
+            rows_reply(all_rows(alloc, scan))
         }
         Action::Seek {
             range,
@@ -55,79 +54,16 @@ pub(crate) fn act<S: Store, M: MergeOperator, E: PrefixExtractor>(
             key,
             order,
             ..
-        } => seek(
-            follower,
-            alloc,
-            store,
-            range.as_ref(),
-            (*take, key),
-            *order,
-            operator,
-        ),
+        } => {
+            let range = range.as_ref();
+            let scan = follower.scan(alloc, store, range, *order, operator);
+            rows_reply(rows_with_seek(alloc, scan, *take, key, range))
+        }
         Action::Poll { .. } => poll(follower, alloc, store, extractor, command.moment),
         Action::Close { .. } => close(follower, alloc, store),
         Action::Status { .. } => status(follower, alloc),
         _ => Reply::Unknown,
     }
-}
-
-/// Reads a key of a reader.
-fn get<S: Store, M: MergeOperator>(
-    follower: &FollowerState,
-    alloc: Global,
-    store: &mut S,
-    key: &Bytes,
-    operator: Option<&M>,
-) -> Reply
-    ensures faults { S.faults store.old ≤ S.faults store.new }
-    ensures calls { S.calls store.new ≤ S.calls store.old + length follower.now.view.manifest.tables }
-    ensures untouched { (follower.now.result ≡ None → ⊥) → store.new ≡ store.old }
-    ensures read { (merge : Option Merge) → (follower.now.result ≡ None → IsOperator M.may_answer (option_copied operator.entry) merge) →
-        GetsFromFollower (by_objects (S.objects store.old)) merge key.now follower.now (known S.objects S.faults store.old) result (known S.objects S.faults store.new) }
-{
-    read_reply(follower.get(alloc, store, key.as_slice(), operator))
-}
-
-/// Reads a range of a reader.
-fn scan<S: Store, M: MergeOperator>(
-    follower: &FollowerState,
-    alloc: Global,
-    store: &mut S,
-    range: &ByteRange,
-    order: IterationOrder,
-    operator: Option<&M>,
-) -> Reply
-    ensures faults { S.faults store.old ≤ S.faults store.new }
-    ensures calls { S.calls store.new ≤ S.calls store.old + length follower.now.view.manifest.tables }
-    ensures untouched { (follower.now.result ≡ None → ⊥) → store.new ≡ store.old }
-    ensures read { (merge : Option Merge) → (follower.now.result ≡ None → IsOperator M.may_answer (option_copied operator.entry) merge) →
-        TakesFromFollower (by_objects (S.objects store.old)) merge range.now order scanned
-        follower.now (known S.objects S.faults store.old) result (known S.objects S.faults store.new) }
-{
-    let scan = follower.scan(alloc, store, range, order, operator);
-    rows_reply(all_rows(alloc, scan))
-}
-
-/// Reads so many rows of a range of a reader, and then those from a key on.
-fn seek<S: Store, M: MergeOperator>(
-    follower: &FollowerState,
-    alloc: Global,
-    store: &mut S,
-    range: &ByteRange,
-    take_and_key: (u64, &Bytes),
-    order: IterationOrder,
-    operator: Option<&M>,
-) -> Reply
-    ensures faults { S.faults store.old ≤ S.faults store.new }
-    ensures calls { S.calls store.new ≤ S.calls store.old + length follower.now.view.manifest.tables }
-    ensures untouched { (follower.now.result ≡ None → ⊥) → store.new ≡ store.old }
-    ensures read { (merge : Option Merge) → (follower.now.result ≡ None → IsOperator M.may_answer (option_copied operator.entry) merge) →
-        TakesFromFollower (by_objects (S.objects store.old)) merge range.now order (sought range.now take_and_key.entry.0 take_and_key.entry.1.now)
-        follower.now (known S.objects S.faults store.old) result (known S.objects S.faults store.new) }
-{
-    let (take, key) = take_and_key;
-    let scan = follower.scan(alloc, store, range, order, operator);
-    rows_reply(rows_with_seek(alloc, scan, take, key, range))
 }
 
 /// Lets a reader see what is stored, up to what it may lag.

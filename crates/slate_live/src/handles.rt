@@ -1,13 +1,12 @@
 // What commands do to a handle that writes.
-ghost use Rattle.std.specs.Prelude.{◌≡◌, ◌≤◌, ℕ, List, ◌+◌, [], ◌∷◌, ◌++◌, false, length, None, Some, Option, IfErr, IfOk, IfSome, IsTrue, ◌↔◌, true};
+ghost use Rattle.std.specs.Prelude.{◌≡◌, ◌≤◌, ℕ, List, ◌+◌, [], ◌∷◌, ◌++◌, false, None, Some, Option, IfErr, IfOk, IfSome, IsTrue, ◌↔◌, true};
 ghost use Rattle.std.specs.Option.{option_copied};
 ghost use Rattle.slate_types.specs.Operator.{Merge};
 ghost use Rattle.slate_reads.specs.Read.{IsOperator};
 ghost use Rattle.slate_store.specs.Compaction.{compact_calls};
 ghost use Rattle.slate_model.specs.Known.{known};
 ghost use Rattle.slate_model.specs.Object.{Handle as AHandle};
-ghost use Rattle.slate_model.specs.Read.{Gives, Reads};
-ghost use Rattle.slate_model.specs.Stores.{by_objects, kept_rows};
+ghost use Rattle.slate_model.specs.Stores.{by_objects};
 ghost use Rattle.slate_model.specs.Segments.{Extractor, IsExtractor};
 ghost use Rattle.slate_model.specs.Status.{handle_status};
 ghost use Rattle.slate_model.specs.Write.{Writes};
@@ -15,22 +14,20 @@ ghost use Rattle.slate_live.specs.Lawful.{AreLawful, asks_of};
 ghost use Rattle.slate_live.specs.Settings.{Settings};
 ghost use Rattle.slate_live.specs.Calls.{asks_operator, call_of, flush_of_close, most_asked, ops_of, read_of};
 ghost use Rattle.slate_live.specs.declared.states.Write.{Write as AWrite};
-ghost use Rattle.slate_live.specs.Handles.{ClosesHandle, CompactsHandle, FlushesHandle, GetsFrom, HandleActs, IsPlainScan, RefreshesHandle};
-ghost use Rattle.slate_live.specs.Handles.{TakesFrom, WritesTo, durable_reply, flush_type_by, level_of, noted};
+ghost use Rattle.slate_live.specs.Handles.{ClosesHandle, CompactsHandle, FlushesHandle, HandleActs, RefreshesHandle};
+ghost use Rattle.slate_live.specs.Handles.{WritesTo, durable_reply, flush_type_by, level_of, noted};
 ghost use Rattle.slate_live.specs.Replies.{AnswersStatus, ended_reply, found_reply, refusal, reply_to};
-ghost use Rattle.slate_live.specs.Scans.{scanned, sought};
 
 use crate::scans::{all_rows, rows_reply, rows_with_seek};
 use crate::states::Write;
 use bytes::Bytes;
 use slate_errors::{Ended, SlateError};
-use slate_rows::DbIterator;
 use slate_script::{Action, Boxed, Command, Reply};
 use slate_status::DbStatus;
 use slate_store::Store;
 use slate_types::{
-    ByteRange, CloseOptions, DurabilityLevel, FlushType, IterationOrder, KeyOp, KeyValue,
-    MergeOperator, NoMemory, Op, PrefixExtractor, ReadOptions, ScanOptions, Seq, WriteBatch,
+    CloseOptions, DurabilityLevel, FlushType, IterationOrder, KeyOp, KeyValue, MergeOperator,
+    NoMemory, Op, PrefixExtractor, ReadOptions, ScanOptions, Seq, WriteBatch,
 };
 use slate_writer::{WriterState, Written};
 use std::alloc::Global;
@@ -98,23 +95,19 @@ pub(crate) fn read<S: Store, M: MergeOperator>(
 {
     match &command.action {
         Action::Get { key, remote, .. } => {
-            get(writer, alloc, store, key, *remote, snapshot, operator)
+            let options = read_options(*remote);
+            read_reply(writer.get(alloc, store, key.as_slice(), &options, snapshot, operator))
         }
         Action::Scan {
             range,
             order,
             remote,
             ..
-        } => scan(
-            writer,
-            alloc,
-            store,
-            range.as_ref(),
-            *order,
-            *remote,
-            snapshot,
-            operator,
-        ),
+        } => {
+            let options = scan_options(*order, *remote);
+            let scan = writer.scan(alloc, store, range.as_ref(), &options, snapshot, operator);
+            rows_reply(all_rows(alloc, scan))
+        }
         Action::Seek {
             range,
             take,
@@ -123,18 +116,10 @@ pub(crate) fn read<S: Store, M: MergeOperator>(
             remote,
             ..
         } => {
-            let from = (*take, key);
-            seek(
-                writer,
-                alloc,
-                store,
-                range.as_ref(),
-                from,
-                *order,
-                *remote,
-                snapshot,
-                operator,
-            )
+            let range = range.as_ref();
+            let options = scan_options(*order, *remote);
+            let scan = writer.scan(alloc, store, range, &options, snapshot, operator);
+            rows_reply(rows_with_seek(alloc, scan, *take, key, range))
         }
         _ => Reply::Unknown,
     }
@@ -295,26 +280,6 @@ fn compact<S: Store>(writer: &mut WriterState, alloc: Global, store: &mut S) -> 
     }
 }
 
-/// Reads a key of a handle, up to the number of a snapshot, where one is given.
-fn get<S: Store, M: MergeOperator>(
-    writer: &WriterState,
-    alloc: Global,
-    store: &mut S,
-    key: &Bytes,
-    remote: bool,
-    snapshot: Option<u64>,
-    operator: Option<&M>,
-) -> Reply
-    ensures faults { S.faults store.old ≤ S.faults store.new }
-    ensures calls { S.calls store.new ≤ S.calls store.old + length writer.now.view.manifest.tables }
-    ensures untouched { (writer.now.result ≡ None → ⊥) → store.new ≡ store.old }
-    ensures read { (merge : Option Merge) → (writer.now.result ≡ None → IsOperator M.may_answer (option_copied operator.entry) merge) →
-        GetsFrom (by_objects (S.objects store.old)) merge key.now remote snapshot writer.now (known S.objects S.faults store.old) result (known S.objects S.faults store.new) }
-{
-    let options = read_options(remote);
-    read_reply(writer.get(alloc, store, key.as_slice(), &options, snapshot, operator))
-}
-
 /// The reply to a read.
 pub(crate) fn read_reply(found: Result<Option<KeyValue>, SlateError>) -> Reply
     ensures { result ≡ reply_to found_reply found }
@@ -339,78 +304,6 @@ fn read_options(remote: bool) -> ReadOptions
         durability_filter,
         dirty: false,
     }
-}
-
-/// Reads a range of a handle, up to the number of a snapshot, where one is given.
-fn scan<S: Store, M: MergeOperator>(
-    writer: &WriterState,
-    alloc: Global,
-    store: &mut S,
-    range: &ByteRange,
-    order: IterationOrder,
-    remote: bool,
-    snapshot: Option<u64>,
-    operator: Option<&M>,
-) -> Reply
-    ensures faults { S.faults store.old ≤ S.faults store.new }
-    ensures calls { S.calls store.new ≤ S.calls store.old + length writer.now.view.manifest.tables }
-    ensures untouched { (writer.now.result ≡ None → ⊥) → store.new ≡ store.old }
-    ensures read { (merge : Option Merge) → (writer.now.result ≡ None → IsOperator M.may_answer (option_copied operator.entry) merge) →
-        TakesFrom (by_objects (S.objects store.old)) merge range.now order remote snapshot scanned
-        writer.now (known S.objects S.faults store.old) result (known S.objects S.faults store.new) }
-{
-    let scan = begin_scan(
-        writer, alloc, store, range, order, remote, snapshot, operator,
-    );
-    rows_reply(all_rows(alloc, scan))
-}
-
-/// Reads so many rows of a range of a handle, and then those from a key on.
-fn seek<S: Store, M: MergeOperator>(
-    writer: &WriterState,
-    alloc: Global,
-    store: &mut S,
-    range: &ByteRange,
-    take_and_key: (u64, &Bytes),
-    order: IterationOrder,
-    remote: bool,
-    snapshot: Option<u64>,
-    operator: Option<&M>,
-) -> Reply
-    ensures faults { S.faults store.old ≤ S.faults store.new }
-    ensures calls { S.calls store.new ≤ S.calls store.old + length writer.now.view.manifest.tables }
-    ensures untouched { (writer.now.result ≡ None → ⊥) → store.new ≡ store.old }
-    ensures read { (merge : Option Merge) → (writer.now.result ≡ None → IsOperator M.may_answer (option_copied operator.entry) merge) →
-        TakesFrom (by_objects (S.objects store.old)) merge range.now order remote snapshot (sought range.now take_and_key.entry.0 take_and_key.entry.1.now)
-        writer.now (known S.objects S.faults store.old) result (known S.objects S.faults store.new) }
-{
-    let (take, key) = take_and_key;
-    let scan = begin_scan(
-        writer, alloc, store, range, order, remote, snapshot, operator,
-    );
-    rows_reply(rows_with_seek(alloc, scan, take, key, range))
-}
-
-/// Begins a scan of a range of a handle.
-fn begin_scan<S: Store, M: MergeOperator>(
-    writer: &WriterState,
-    alloc: Global,
-    store: &mut S,
-    range: &ByteRange,
-    order: IterationOrder,
-    remote: bool,
-    snapshot: Option<u64>,
-    operator: Option<&M>,
-) -> Result<DbIterator, SlateError>
-    ensures faults { S.faults store.old ≤ S.faults store.new }
-    ensures calls { S.calls store.new ≤ S.calls store.old + length writer.now.view.manifest.tables }
-    ensures untouched { (writer.now.result ≡ None → ⊥) → store.new ≡ store.old }
-    ensures scans { (merge : Option Merge) → (writer.now.result ≡ None → IsOperator M.may_answer (option_copied operator.entry) merge) →
-        Reads writer.now.result writer.now.view.manifest.tables (kept_rows (S.objects store.old) (AHandle writer.now))
-        (Gives (IsPlainScan merge range.now order remote snapshot writer.now)) (known S.objects S.faults store.old) result (known S.objects S.faults store.new) }
-{
-    let options = scan_options(order, remote);
-    writer.scan(alloc, store, range, &options, snapshot, operator)
 }
 
 /// The options of a scan in an order, of durable batches alone, or of all.

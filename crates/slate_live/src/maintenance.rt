@@ -1,5 +1,5 @@
 // What commands do to the store alone: checkpoints and sweeps.
-ghost use Rattle.std.specs.Prelude.{◌≡◌, ◌≤◌, ◌+◌, ℕ, IfSome};
+ghost use Rattle.std.specs.Prelude.{◌≤◌, ◌+◌, ℕ, IfSome};
 ghost use Rattle.slate_store.specs.Sweeps.{sweep_calls};
 ghost use Rattle.slate_model.specs.Known.{known};
 ghost use Rattle.slate_model.specs.Stores.{by_objects};

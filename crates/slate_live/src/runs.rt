@@ -1,8 +1,7 @@
 // Running a list of commands over a store, with a reply to each.
-ghost use Rattle.std.specs.Prelude.{All, ◌≡◌, ◌≤◌, [], List, None, Option, IfOk, OnErr, true};
+ghost use Rattle.std.specs.Prelude.{◌≡◌, ◌≤◌, Option, IfOk, OnErr};
 ghost use Rattle.std.specs.Option.{option_copied};
 ghost use Rattle.slate_model.specs.Known.{known};
-ghost use Rattle.slate_types.specs.declared.batches.Batch.{Batch};
 ghost use Rattle.slate_live.specs.Lawful.{AreLawful, asks_in};
 ghost use Rattle.slate_live.specs.Run.{DidAll, IsRun};
 ghost use Rattle.slate_live.specs.Settings.{Settings};

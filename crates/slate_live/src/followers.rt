@@ -14,6 +14,7 @@ ghost use Rattle.slate_live.specs.Calls.{call_of, end_calls, ends_poll, most_ask
 ghost use Rattle.slate_live.specs.Followers.{ClosesFollower, FollowerActs, PollsFollower};
 ghost use Rattle.slate_live.specs.Replies.{AnswersStatus, follower_closed_reply, polled_reply};
 
+use crate::extensions::Extensions;
 use crate::handles::{read_reply, refusal, status_reply};
 use crate::scans::{all_rows, rows_reply, rows_with_seek};
 use slate_errors::Ended;
@@ -28,24 +29,23 @@ pub(crate) fn act<S: Store, M: MergeOperator, E: PrefixExtractor>(
     follower: &mut FollowerState,
     alloc: Global,
     store: &mut S,
-    operator: Option<&M>,
-    extractor: Option<&E>,
+    extensions: &Extensions<'_, M, E>,
     command: &Command,
 ) -> Reply
     ensures faults { S.faults store.old ≤ S.faults store.new }
     ensures calls { IfSome (S.objects store.old) (λ o. S.calls store.new ≤ S.calls store.old + most_asked o (Some (AFollower follower.old)) (call_of command.now.action)) }
     ensures untouched { (follower.old.result ≡ None → ⊥) → store.new ≡ store.old }
-    ensures does { (settings : Settings) (writes : List Write) → AreLawful M.may_answer (option_copied operator.entry) E.may_name E.may_extract (option_copied extractor.entry) settings (asks_of (Some (AFollower follower.old)) command.now.action) →
+    ensures does { (settings : Settings) (writes : List Write) → AreLawful M.may_answer (option_copied extensions.now.operator) E.may_name E.may_extract (option_copied extensions.now.extractor) settings (asks_of (Some (AFollower follower.old)) command.now.action) →
         (made : ℕ) × FollowerActs (by_objects (S.objects store.old)) settings command.now.moment (call_of command.now.action) made
         follower.old (known S.objects S.faults store.old) writes result follower.new (known S.objects S.faults store.new) writes }
     ensures stays { ends_poll command.now.action ≡ false → follower.new ≡ follower.old }
 {
     match &command.action {
         Action::Get { key, .. } => {
-            read_reply(follower.get(alloc, store, key.as_slice(), operator))
+            read_reply(follower.get(alloc, store, key.as_slice(), extensions.operator))
         }
         Action::Scan { range, order, .. } => {
-            let scan = follower.scan(alloc, store, range.as_ref(), *order, operator);
+            let scan = follower.scan(alloc, store, range.as_ref(), *order, extensions.operator);
             rows_reply(all_rows(alloc, scan))
         }
         Action::Seek {
@@ -56,10 +56,10 @@ pub(crate) fn act<S: Store, M: MergeOperator, E: PrefixExtractor>(
             ..
         } => {
             let range = range.as_ref();
-            let scan = follower.scan(alloc, store, range, *order, operator);
+            let scan = follower.scan(alloc, store, range, *order, extensions.operator);
             rows_reply(rows_with_seek(alloc, scan, *take, key, range))
         }
-        Action::Poll { .. } => poll(follower, alloc, store, extractor, command.moment),
+        Action::Poll { .. } => poll(follower, alloc, store, extensions.extractor, command.moment),
         Action::Close { .. } => close(follower, alloc, store),
         Action::Status { .. } => status(follower, alloc),
         _ => Reply::Unknown,

@@ -18,6 +18,7 @@ ghost use Rattle.slate_live.specs.Handles.{ClosesHandle, CompactsHandle, Flushes
 ghost use Rattle.slate_live.specs.Handles.{WritesTo, durable_reply, flush_type_by, level_of, noted};
 ghost use Rattle.slate_live.specs.Replies.{AnswersStatus, ended_reply, found_reply, refusal, reply_to};
 
+use crate::extensions::Extensions;
 use crate::scans::{all_rows, rows_reply, rows_with_seek};
 use crate::states::Write;
 use bytes::Bytes;
@@ -39,33 +40,32 @@ pub(crate) fn act<S: Store, M: MergeOperator, E: PrefixExtractor>(
     store: &mut S,
     writes: &mut Vec<Write>,
     number: u64,
-    operator: Option<&M>,
-    extractor: Option<&E>,
+    extensions: &Extensions<'_, M, E>,
     command: &Command,
 ) -> Reply
     ensures faults { S.faults store.old ≤ S.faults store.new }
     ensures calls { IfSome (S.objects store.old) (λ o.
         S.calls store.new ≤ S.calls store.old + most_asked o (Some (AHandle writer.old)) (call_of command.now.action)) }
     ensures untouched { (writer.old.result ≡ None → ⊥) → store.new ≡ store.old }
-    ensures does { (settings : Settings) → AreLawful M.may_answer (option_copied operator.entry) E.may_name E.may_extract (option_copied extractor.entry) settings (asks_of (Some (AHandle writer.old)) command.now.action) →
+    ensures does { (settings : Settings) → AreLawful M.may_answer (option_copied extensions.now.operator) E.may_name E.may_extract (option_copied extensions.now.extractor) settings (asks_of (Some (AHandle writer.old)) command.now.action) →
         (made : ℕ) × HandleActs (by_objects (S.objects store.old)) settings number command.now.moment command.now.second (call_of command.now.action) made
         writer.old (known S.objects S.faults store.old) writes.old.items result writer.new (known S.objects S.faults store.new) writes.new.items }
 {
     match &command.action {
         Action::Put { .. } | Action::Delete { .. } | Action::Batch { .. } => {
-            write(writer, alloc, writes, number, command, extractor)
+            write(writer, alloc, writes, number, command, extensions.extractor)
         }
         Action::Merge { .. } => {
-            if operator.is_none() {
+            if extensions.operator.is_none() {
                 return Reply::Refused(SlateError::MergeOperatorMissing);
             }
-            write(writer, alloc, writes, number, command, extractor)
+            write(writer, alloc, writes, number, command, extensions.extractor)
         }
         Action::Flush { flush_type, .. } => flush(writer, alloc, store, *flush_type),
         Action::Refresh { .. } => refresh(writer, alloc, store),
         Action::Compact { .. } => compact(writer, alloc, store),
         Action::Get { .. } | Action::Scan { .. } | Action::Seek { .. } => {
-            read(writer, alloc, store, None, operator, command)
+            read(writer, alloc, store, None, extensions.operator, command)
         }
         Action::Close { options, .. } => close(writer, alloc, store, *options),
         Action::Status { .. } => status(writer, alloc),

@@ -2,6 +2,7 @@
 //! of the command line and the bytes of a script to the bytes of the replies.
 #![tactic(auto)]
 
+mod extensions;
 mod followers;
 mod handles;
 mod laws;

@@ -19,6 +19,7 @@ ghost use Rattle.slate_live.specs.Sampling.{ActsAsOf, snapshot_of, taken_of};
 ghost use Rattle.slate_live.specs.declared.states.Write.{Write as AWrite};
 ghost use Rattle.slate_live.specs.Publishing.{reader_of};
 
+use crate::extensions::Extensions;
 use crate::handles;
 use crate::readers::Reader;
 use crate::states::Write;
@@ -59,8 +60,7 @@ impl Object {
         store: &mut S,
         writes: &mut Vec<Write>,
         number: u64,
-        operator: Option<&M>,
-        extractor: Option<&E>,
+        extensions: &Extensions<'_, M, E>,
         command: &Command,
     ) -> Reply
         requires itself { snapshot_of (object_of self.old) ≡ None }
@@ -68,17 +68,17 @@ impl Object {
         ensures calls { IfSome (S.objects store.old) (λ o.
             S.calls store.new ≤ S.calls store.old + most_asked o (Some (object_of self.old)) (call_of command.now.action)) }
         ensures untouched { IsShut (object_of self.old) → store.new ≡ store.old }
-        ensures does { (settings : Settings) → AreLawful M.may_answer (option_copied operator.entry) E.may_name E.may_extract (option_copied extractor.entry) settings (asks_of (Some (object_of self.old)) command.now.action) →
+        ensures does { (settings : Settings) → AreLawful M.may_answer (option_copied extensions.now.operator) E.may_name E.may_extract (option_copied extensions.now.extractor) settings (asks_of (Some (object_of self.old)) command.now.action) →
             (made : ℕ) × Acts (by_objects (S.objects store.old)) settings number command.now (call_of command.now.action) made
             (object_of self.old) (known S.objects S.faults store.old) writes.old.items result (object_of self.new) (known S.objects S.faults store.new) writes.new.items }
         ensures poll { poll_of self.new ≡ (if ends_poll command.now.action then None else poll_of self.old) }
     {
         match self {
             Object::Handle(writer) => handles::act(
-                writer, alloc, store, writes, number, operator, extractor, command,
+                writer, alloc, store, writes, number, extensions, command,
             ),
             Object::Snapshot(_) => Reply::Unknown,
-            Object::Follower(reader) => reader.act(alloc, store, operator, extractor, command),
+            Object::Follower(reader) => reader.act(alloc, store, extensions, command),
         }
     }
 

@@ -14,6 +14,7 @@ ghost use Rattle.slate_live.specs.Settings.{Settings};
 ghost use Rattle.slate_live.specs.Stepping.{BeginsReader, StepsOf};
 ghost use Rattle.slate_live.specs.declared.states.Write.{Write};
 
+use crate::extensions::Extensions;
 use crate::followers;
 use crate::handles::refusal;
 use slate_follow::{FollowerState, PollMachine};
@@ -68,19 +69,18 @@ impl Reader {
         &mut self,
         alloc: Global,
         store: &mut S,
-        operator: Option<&M>,
-        extractor: Option<&E>,
+        extensions: &Extensions<'_, M, E>,
         command: &Command,
     ) -> Reply
         ensures faults { S.faults store.old ≤ S.faults store.new }
         ensures calls { IfSome (S.objects store.old) (λ o. S.calls store.new ≤ S.calls store.old + most_asked o (Some (AFollower self.old.state)) (call_of command.now.action)) }
         ensures untouched { (self.old.state.result ≡ None → ⊥) → store.new ≡ store.old }
-        ensures does { (settings : Settings) (writes : List Write) → AreLawful M.may_answer (option_copied operator.entry) E.may_name E.may_extract (option_copied extractor.entry) settings (asks_of (Some (AFollower self.old.state)) command.now.action) →
+        ensures does { (settings : Settings) (writes : List Write) → AreLawful M.may_answer (option_copied extensions.now.operator) E.may_name E.may_extract (option_copied extensions.now.extractor) settings (asks_of (Some (AFollower self.old.state)) command.now.action) →
             (made : ℕ) × FollowerActs (by_objects (S.objects store.old)) settings command.now.moment (call_of command.now.action) made
             self.old.state (known S.objects S.faults store.old) writes result self.new.state (known S.objects S.faults store.new) writes }
         ensures poll { self.new.poll ≡ (if ends_poll command.now.action then None else self.old.poll) }
     {
-        let reply = followers::act(&mut self.state, alloc, store, operator, extractor, command);
+        let reply = followers::act(&mut self.state, alloc, store, extensions, command);
         if ends_poll(&command.action) {
             self.poll = None;
         }

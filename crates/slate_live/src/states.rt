@@ -27,6 +27,7 @@ ghost use Rattle.slate_live.specs.Valid.{Link};
 ghost use Rattle.slate_live.specs.World.{World};
 ghost use Rattle.slate_writer.specs.Tasks.{tasks_of};
 
+use crate::extensions::Extensions;
 use crate::handles::refusal;
 use crate::maintenance::{checkpoint, sweep};
 use crate::objects::Object;
@@ -118,7 +119,13 @@ impl LiveState {
         match &command.action {
             Action::Begin { follower } => self.begin(alloc, *follower, command.moment),
             Action::Step { follower } => self.step(alloc, store, *follower, extractor),
-            _ => self.make_call(alloc, store, operator, extractor, command),
+            _ => {
+                let extensions = Extensions {
+                    operator,
+                    extractor,
+                };
+                self.make_call(alloc, store, &extensions, command)
+            }
         }
     }
 
@@ -150,8 +157,7 @@ impl LiveState {
         &mut self,
         alloc: Global,
         store: &mut S,
-        operator: Option<&M>,
-        extractor: Option<&E>,
+        extensions: &Extensions<'_, M, E>,
         command: &Command,
     ) -> Reply
         requires whole { kind_of command.now.action ≡ Whole }
@@ -160,12 +166,17 @@ impl LiveState {
         ensures calls { IfSome (S.objects store.old) (λ o. S.calls store.new ≤ S.calls store.old + most_calls o self.old.objects command.now) }
         ensures untouched { IsShutAt (read_by self.old.objects (named self.old.objects (target_of command.now.action))) → store.new ≡ store.old }
         ensures polls { ArePolls command.now.action self.old.polls self.new.polls }
-        ensures does { (settings : Settings) → AreLawful M.may_answer (option_copied operator.entry) E.may_name E.may_extract (option_copied extractor.entry) settings (asks_among self.old.objects command.now.action) → settings.options ≡ self.old.options →
+        ensures does { (settings : Settings) → AreLawful M.may_answer (option_copied extensions.now.operator) E.may_name E.may_extract (option_copied extensions.now.extractor) settings (asks_among self.old.objects command.now.action) → settings.options ≡ self.old.options →
             (made : ℕ) × Does (by_objects (S.objects store.old)) settings made
             (running self.old (known S.objects S.faults store.old)) command.now result (running self.new (known S.objects S.faults store.new)) }
     {
         match target_of(&command.action) {
-            Target::NewHandle { keeps_log } => self.open(alloc, store, keeps_log, extractor),
+            Target::NewHandle { keeps_log } => self.open(
+                alloc,
+                store,
+                keeps_log,
+                extensions.extractor,
+            ),
             Target::NewSnapshot { handle } => self.snapshot(handle),
             Target::NewFollower {
                 mode,
@@ -174,16 +185,21 @@ impl LiveState {
                 lag,
             } => {
                 let options = reader_options(managed, skips, lag);
-                self.follow(alloc, store, mode, &options, command.moment, extractor)
+                self.follow(
+                    alloc,
+                    store,
+                    mode,
+                    &options,
+                    command.moment,
+                    extensions.extractor,
+                )
             }
             Target::NewCheckpoint { lifetime } => {
                 checkpoint(alloc, store, lifetime, command.moment)
             }
             Target::WholeStore => sweep(alloc, store, command.moment),
             Target::OfWrite { write } => self.write_reply(write),
-            Target::OfObject { object } => {
-                self.act(alloc, store, object, operator, extractor, command)
-            }
+            Target::OfObject { object } => { self.act(alloc, store, object, extensions, command) }
         }
     }
 
@@ -341,8 +357,7 @@ impl LiveState {
         alloc: Global,
         store: &mut S,
         number: u64,
-        operator: Option<&M>,
-        extractor: Option<&E>,
+        extensions: &Extensions<'_, M, E>,
         command: &Command,
     ) -> Reply
         ensures options { self.new.options ≡ self.old.options }
@@ -351,7 +366,7 @@ impl LiveState {
             S.calls store.new ≤ S.calls store.old + most_asked o (read_by self.old.objects (slice_get self.old.objects number)) (call_of command.now.action)) }
         ensures untouched { IsShutAt (read_by self.old.objects (slice_get self.old.objects number)) → store.new ≡ store.old }
         ensures polls { target_of command.now.action ≡ OfObject number → ArePolls command.now.action self.old.polls self.new.polls }
-        ensures does { (settings : Settings) → AreLawful M.may_answer (option_copied operator.entry) E.may_name E.may_extract (option_copied extractor.entry) settings (asks_of (read_by self.old.objects (slice_get self.old.objects number)) command.now.action) →
+        ensures does { (settings : Settings) → AreLawful M.may_answer (option_copied extensions.now.operator) E.may_name E.may_extract (option_copied extensions.now.extractor) settings (asks_of (read_by self.old.objects (slice_get self.old.objects number)) command.now.action) →
             (made : ℕ) × ActsOn (by_objects (S.objects store.old)) settings number command.now (call_of command.now.action) made (slice_get self.old.objects number)
             (running self.old (known S.objects S.faults store.old)) result (running self.new (known S.objects S.faults store.new)) }
     {
@@ -360,18 +375,10 @@ impl LiveState {
             return Reply::Unknown;
         }
         if let Some(snapshot) = self.objects[place].snapshot() {
-            return self.act_at(alloc, store, snapshot, operator, command);
+            return self.act_at(alloc, store, snapshot, extensions.operator, command);
         }
         let object = &mut self.objects[place];
-        object.act(
-            alloc,
-            store,
-            &mut self.writes,
-            number,
-            operator,
-            extractor,
-            command,
-        )
+        object.act(alloc, store, &mut self.writes, number, extensions, command)
     }
 
     /// Does a command that names a snapshot: its handle is read, up to the snapshot's number.

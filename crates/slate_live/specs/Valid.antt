@@ -43,7 +43,9 @@ use Rattle.slate_model.specs.declared.snapshots.HandleSnapshot.{HandleSnapshot}
 use Rattle.slate_model.specs.Object.{Object, Handle as AHandle, Snapshot as ASnapshot, Follower as AFollower}
 use Rattle.slate_live.specs.State.{IsBegunAt}
 use Rattle.slate_live.specs.Calls.{Call, Write as WriteCall, Merge, Flush, Refresh, Compact, Get, Scan, Seek, Close, Poll, Status, FindTime, FindNumber, Kind, Begins, Steps, Whole, call_of, kind_of}
-use Rattle.slate_live.specs.Calls.{Target, NewHandle, NewSnapshot, NewFollower, NewCheckpoint, WholeStore, OfWrite, OfObject, at_snapshot, target_of}
+use Rattle.slate_live.specs.Calls.{at_snapshot, target_of}
+use Rattle.slate_live.specs.declared.targets.Target.{Target}
+use Rattle.slate_live.specs.declared.targets.Target.TheVariants.{NewHandle, NewSnapshot, NewFollower, NewCheckpoint, WholeStore, OfWrite, OfObject}
 use Rattle.slate_live.specs.Followers.{IsPlainReadAt, IsPlainScanAt}
 use Rattle.slate_live.specs.Handles.{IsPlainRead, IsPlainScan, flush_type_by}
 use Rattle.slate_live.specs.Scans.{scanned, sought}

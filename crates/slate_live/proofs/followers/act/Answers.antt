@@ -18,20 +18,17 @@ use Rattle.slate_live.proofs.followers.act.Goals as goal
 pub returns-in-Get-clause-does : goal.returns-in-Get-clause-does
 returns-in-Get-clause-does g c settings writes lawful =
     let f = c.args.follower.now in
-    let reads = either-reads f.result (λ open_. c.get.ensures.read settings.merge (lawful.operator_is (ap (asks_operator (Some (AFollower f))) c.in-Get.is ∙ ap is_none open_))) c.get.ensures.by_any in
-    (0, rw c.in-Get.is (record { result = c.get.result; replied = c.read_reply.ensures; does = rw (← c.as_slice.ensures) reads }, refl {a = f}, refl, refl {a = writes}))
+    (0, rw c.in-Get.is (record { result = c.get.result; replied = c.read_reply.ensures; does = rw (← c.as_slice.ensures) (either-reads f.result (λ open_. c.get.ensures.read settings.merge (lawful.operator_is (ap (asks_operator (Some (AFollower f))) c.in-Get.is ∙ ap is_none open_))) c.get.ensures.by_any) }, refl {a = f}, refl, refl {a = writes}))
 
 pub returns-in-Scan-clause-does : goal.returns-in-Scan-clause-does
 returns-in-Scan-clause-does g c settings writes lawful =
     let f = c.args.follower.now in
-    let reads = either-reads f.result (λ open_. c.scan.ensures.scan settings.merge (lawful.operator_is (ap (asks_operator (Some (AFollower f))) c.in-Scan.is ∙ ap is_none open_))) c.scan.ensures.by_any in
-    (0, rw c.in-Scan.is (rw (sym c.as_ref.ensures) (taken-of c.scan.result c.all_rows.result c.rows_reply.result reads c.all_rows.ensures c.rows_reply.ensures), refl {a = f}, refl, refl {a = writes}))
+    (0, rw c.in-Scan.is (rw (sym c.as_ref.ensures) (taken-of c.scan-scan.result c.all_rows.result c.rows_reply.result (either-reads f.result (λ open_. c.scan-scan.ensures.scan settings.merge (lawful.operator_is (ap (asks_operator (Some (AFollower f))) c.in-Scan.is ∙ ap is_none open_))) c.scan-scan.ensures.by_any) c.all_rows.ensures c.rows_reply.ensures), refl {a = f}, refl, refl {a = writes}))
 
 pub returns-in-Seek-clause-does : goal.returns-in-Seek-clause-does
 returns-in-Seek-clause-does g c settings writes lawful =
     let f = c.args.follower.now in
-    let reads = either-reads f.result (λ open_. c.scan-in-Seek.ensures.scan settings.merge (lawful.operator_is (ap (asks_operator (Some (AFollower f))) c.in-Seek.is ∙ ap is_none open_))) c.scan-in-Seek.ensures.by_any in
-    (0, rw c.in-Seek.is (rw (sym c.as_ref-range.ensures) (taken-of c.scan-in-Seek.result c.rows_with_seek.result c.rows_reply-in-Seek.result reads c.rows_with_seek.ensures c.rows_reply-in-Seek.ensures), refl {a = f}, refl, refl {a = writes}))
+    (0, rw c.in-Seek.is (rw (sym c.as_ref-range.ensures) (taken-of c.scan-scan-in-Seek.result c.rows_with_seek.result c.rows_reply-in-Seek.result (either-reads f.result (λ open_. c.scan-scan-in-Seek.ensures.scan settings.merge (lawful.operator_is (ap (asks_operator (Some (AFollower f))) c.in-Seek.is ∙ ap is_none open_))) c.scan-scan-in-Seek.ensures.by_any) c.rows_with_seek.ensures c.rows_reply-in-Seek.ensures), refl {a = f}, refl, refl {a = writes}))
 
 -- a poll, by the command that asks it
 polls-by : {L : Type 0} (k : Knowledge L) (settings : Settings) (moment : ℤ) (action : Action) (n made : ℕ) (old : Follower) (before : Known L) (writes : List Write) (reply : Reply) (new : Follower) (after : Known L) → action ≡ actions.Poll n →

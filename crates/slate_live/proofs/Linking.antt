@@ -1,12 +1,6 @@
 -- What a command does over a store makes a link from each world that is represented.
-use Rattle.std.proofs.Common.{◌≡◌, ◌∙◌, ◌⊎◌, inl, inr, ℕ, ℤ, Bool, false, List, Option, Some, None, refl, sym, subst, ap}
+use Rattle.std.proofs.Common.{◌≡◌, ◌∙◌, ℕ, false, List, Some, None, refl, sym, subst}
 use Rattle.slate_types.specs.declared.batches.Batch.{Batch}
-use Rattle.slate_types.specs.declared.batches.WriteBatch.{WriteBatch}
-use Rattle.slate_types.specs.declared.options.CloseOptions.{CloseOptions}
-use Rattle.slate_types.specs.declared.options.FlushType.{FlushType}
-use Rattle.slate_types.specs.declared.ranges.ByteRange.{ByteRange}
-use Rattle.slate_types.specs.declared.scan_options.IterationOrder.{IterationOrder}
-use Rattle.slate_seqtrack.specs.declared.pairs.FindOption.{FindOption}
 use Rattle.std.specs.List.{slice_get}
 use Rattle.std.specs.Option.{is_some}
 use Rattle.slate_model.specs.Begun.{Begun}
@@ -15,14 +9,11 @@ use Rattle.slate_model.specs.Knowledge.{Knowledge}
 use Rattle.slate_model.specs.Known.{Known}
 use Rattle.slate_model.specs.Object.{Follower as AFollower}
 use Rattle.slate_model.specs.Stores.{by_objects}
-use Rattle.slate_script.specs.declared.commands.Action.{Action}
-use Rattle.slate_script.specs.declared.commands.Action.TheVariants as actions
 use Rattle.slate_script.specs.declared.commands.Command.{Command}
 use Rattle.slate_script.specs.declared.replies.Reply.{Reply}
 use Rattle.slate_script.specs.declared.replies.Reply.TheVariants as replies
 use Rattle.slate_live.specs.Calls.{ArePolls, Begins, Kind, Steps, Whole, kind_of, target_of}
 use Rattle.slate_live.specs.declared.targets.Target.{Target}
-use Rattle.slate_live.specs.declared.targets.Target.TheVariants.{OfObject}
 use Rattle.slate_live.specs.Commands.{Does, DoesBy}
 use Rattle.slate_live.specs.Next.{NextBy}
 use Rattle.slate_live.specs.Represents.{AllInSegments, Links, Represents, StandsOn}

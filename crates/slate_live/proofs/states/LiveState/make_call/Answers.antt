@@ -1,5 +1,5 @@
-use Rattle.std.proofs.Common.{rules, ◌≡◌, ◌∙◌, ℕ, ℤ, Bool, true, Option, refl, sym, subst, ap, w64, to_z, of_z}
-use Rattle.slate_live.specs.Calls.{asks_extractor, asks_operator, drops, named, read_by, target_of}
+use Rattle.std.proofs.Common.{rules, ◌≡◌, ◌∙◌, ℕ, ℤ, Bool, true, Option, refl, sym, subst, w64, to_z, of_z}
+use Rattle.slate_live.specs.Calls.{asks_extractor, asks_operator, named, read_by, target_of}
 use Rattle.slate_live.specs.declared.targets.Target.TheVariants.{NewHandle, NewFollower, NewCheckpoint, WholeStore, OfObject}
 use Rattle.slate_model.specs.Known.{known}
 use Rattle.slate_model.specs.Stores.{by_objects}

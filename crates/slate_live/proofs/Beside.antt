@@ -65,7 +65,7 @@ use Rattle.slate_live.proofs.Advancing.{Advanced, Advances, IsAbove, again-advan
 use Rattle.slate_live.proofs.Cases.{if-some, is-none}
 use Rattle.slate_live.proofs.Following.{new-held, owed-lined, view-stored}
 use Rattle.slate_live.proofs.Chains.{reached}
-use Rattle.slate_live.proofs.Knowing.{unchanged-objects}
+use Rattle.slate_live.proofs.KnownFollower.{unchanged-objects}
 use Rattle.slate_live.proofs.Leases.{entry-after, latest-after, nothing-spared}
 use Rattle.slate_live.proofs.Begun.{are-left, left_polls}
 use Rattle.slate_live.proofs.Growing.{grows}

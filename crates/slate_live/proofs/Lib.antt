@@ -26,6 +26,7 @@ pub mod Holding
 pub mod Keeping
 pub mod Keyed
 pub mod Knowing
+pub mod KnownFollower
 pub mod Lasting
 pub mod Leading
 pub mod Leases

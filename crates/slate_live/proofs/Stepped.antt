@@ -72,7 +72,7 @@ use Rattle.slate_live.proofs.Changing.{followers-set, handles-set-follower}
 use Rattle.slate_live.proofs.Filling.{meets-fails, recorded-is, refused-is}
 use Rattle.slate_live.proofs.Going.{meets-goes}
 use Rattle.slate_live.proofs.Keyed.{bare-lacks, stored-lacks, turn-has}
-use Rattle.slate_live.proofs.Knowing.{unchanged-objects}
+use Rattle.slate_live.proofs.KnownFollower.{unchanged-objects}
 use Rattle.slate_live.proofs.Leading.{Leads}
 use Rattle.slate_live.proofs.Maintaining.{maintained-leads}
 use Rattle.slate_live.proofs.Onward.{beside-onward, onward-maintained}

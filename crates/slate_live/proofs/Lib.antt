@@ -2,6 +2,8 @@ pub mod Advancing
 pub mod Beginning
 pub mod Begun
 pub mod Beside
+pub mod BesideWorld
+pub mod OthersBeside
 pub mod Carrying
 pub mod Cases
 pub mod Chains

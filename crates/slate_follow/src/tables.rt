@@ -132,9 +132,10 @@ pub(crate) fn join_newest(tables: &mut Vec<Table>, limit: u64)
         tables.push_reserved(newest);
         return;
     };
-    let is_whole = older.indexed().size() < limit && older.append_alone(newest.batches());
-    tables.push_reserved(older);
-    if !is_whole {
-        tables.push_reserved(newest);
+    if older.indexed().size() < limit && older.append_alone(newest.batches()) {
+        tables.push_reserved(older);
+        return;
     }
+    tables.push_reserved(older);
+    tables.push_reserved(newest);
 }

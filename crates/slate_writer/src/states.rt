@@ -6,8 +6,8 @@ ghost use Rattle.slate_status.specs.Segments.{AreRising as AreRisingPrefixes};
 ghost use Rattle.slate_model.specs.Handle.{accepted, has_untabled, kept_handle, to_log, untabled_segments};
 ghost use Rattle.slate_model.specs.Status.{handle_status};
 
+use crate::key_prefixes::{clear_unless, rise};
 use crate::memories::Memory;
-use crate::segments::{clear_unless, rise};
 use bytes::Bytes;
 use slate_board::{Board, BoardSeat};
 use slate_errors::CloseFault;

@@ -17,8 +17,8 @@ ghost use Rattle.slate_writer.specs.Segments.{prefixes_by};
 
 use crate::WriterState;
 use crate::board::take_tick;
+use crate::key_prefixes::take_prefixes;
 use crate::merges::merge_refusal;
-use crate::segments::take_prefixes;
 use crate::sizes::ops_size;
 use bytes::Bytes;
 use slate_errors::SlateError;

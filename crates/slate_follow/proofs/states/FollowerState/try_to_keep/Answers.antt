@@ -12,7 +12,7 @@ use Rattle.slate_model.specs.Lease.{differs, is_due, replaces, to_keep}
 use Rattle.slate_model.specs.Managed.{unrefused}
 use Rattle.slate_model.specs.Stores.{Stands}
 use Rattle.slate_store.specs.Refusals.{planned}
-use Rattle.slate_follow.specs.declared.keeps.Kept.{Kept}
+use Rattle.slate_follow.specs.declared.leased_polls.Kept.{Kept}
 use Rattle.slate_follow.specs.Keeping.{MayLack, PutsBy, ReplaceLacks, Replaces, TakesLatest, put_tried, answered}
 use Rattle.slate_follow.proofs.Answering.{polling-poll, turn-polling}
 use Rattle.slate_follow.proofs.Counted.{due-costs, news-then, replaced-costs, replaced-first, rest-costs}

@@ -16,7 +16,7 @@ ghost use Rattle.slate_follow.specs.Keeping.{CallsKeeping, CallsRound, HasTaken,
 ghost use Rattle.slate_follow.specs.Answering.{IsOfPoll};
 ghost use Rattle.slate_follow.specs.Lagging.{readings};
 ghost use Rattle.slate_follow.specs.Rebuilding.{TakesUnder, TakingLacks, Truncates, new_logs};
-ghost use Rattle.slate_follow.specs.Takings.{Gives, HasOwn};
+ghost use Rattle.slate_follow.specs.Takings.{GivesTaking, HasOwn};
 
 use crate::leases::{latest_of, put_next, with_new_lease, with_renewed_lease};
 use crate::polls::poll_error;
@@ -218,7 +218,7 @@ impl FollowerState {
         ensures faults { CountsFaults (S.faults store.old) (S.faults store.new) result }
         ensures kept { S.objects store.new ≡ S.objects store.old }
         ensures floor { IfOk result (λ taken. taken.line.floor ≡ latest.now.manifest.last_l0_seq) }
-        ensures takes { IfOk result (λ taken. IfSome (S.objects store.old) (λ o. Gives (TakesUnder o latest.now self.now) latest.now self.now taken)) }
+        ensures takes { IfOk result (λ taken. IfSome (S.objects store.old) (λ o. GivesTaking (TakesUnder o latest.now self.now) latest.now self.now taken)) }
         ensures segments { (x : Option Extractor) → IsExtractor E.may_name E.may_extract (option_copied extractor.entry) x → HasSegments x self.now → IfOk result (HasOwn x) }
         ensures lacks { (x : Option Extractor) → IsExtractor E.may_name E.may_extract (option_copied extractor.entry) x → result ≡ Err SlateError.InvalidDBState → IfSome (S.objects store.old) (λ o. TakingLacks x o latest.now self.now) }
         ensures refusals { IfErr result IsOfPolling }

@@ -8,7 +8,7 @@ ghost use Rattle.slate_model.specs.Known.{CountsFaults};
 ghost use Rattle.slate_model.specs.Segments.{Extractor, IsExtractor};
 ghost use Rattle.slate_follow.specs.Rebuilding.{BuildLacks, Builds, GoesOn, GoingLacks, IsOfRebuilding, IsOfReplay, Reaches, TakesUnder, TakingLacks, goes_on, last_above, new_logs, unleased};
 ghost use Rattle.slate_follow.specs.Lagging.{IsLastRead, IsLastTaken, readings};
-ghost use Rattle.slate_follow.specs.Takings.{Gives, HasOwn};
+ghost use Rattle.slate_follow.specs.Takings.{GivesTaking, HasOwn};
 
 use crate::rebuilds::{last_above, last_taken, reached};
 use crate::takings::{Taken, taking_anew};
@@ -74,7 +74,7 @@ impl FollowerState {
         ensures faults { CountsFaults (S.faults store.old) (S.faults store.new) result }
         ensures kept { S.objects store.new ≡ S.objects store.old }
         ensures floor { IfOk result (λ taken. taken.line.floor ≡ view.now.manifest.last_l0_seq) }
-        ensures takes { IfOk result (λ taken. IfSome (S.objects store.old) (λ o. Gives (TakesUnder o view.now self.now) view.now self.now taken)) }
+        ensures takes { IfOk result (λ taken. IfSome (S.objects store.old) (λ o. GivesTaking (TakesUnder o view.now self.now) view.now self.now taken)) }
         ensures segments { (x : Option Extractor) → IsExtractor E.may_name E.may_extract (option_copied extractor.entry) x → HasSegments x self.now → IfOk result (HasOwn x) }
         ensures lacks { (x : Option Extractor) (key : List ℕ) → IsExtractor E.may_name E.may_extract (option_copied extractor.entry) x →
             result ≡ Err (SlateError.EmptySegmentPrefix key) → IfSome (S.objects store.old) (λ o. TakingLacks x o view.now self.now) }
@@ -131,7 +131,7 @@ impl FollowerState {
         ensures calls { IfSome (S.objects store.old) (λ o. S.calls store.new ≤ S.calls store.old + (readings self.now.lag (last_above self.now view.now o - max self.now.mark view.now.manifest.replay_after_wal_id) + 1)) }
         ensures kept { S.objects store.new ≡ S.objects store.old }
         ensures floor { IfOk result (λ taken. taken.line.floor ≡ view.now.manifest.last_l0_seq) }
-        ensures gone { IfOk result (λ taken. IfSome (S.objects store.old) (λ o. (last : ℕ) × IsLastTaken self.now.lag (number self.now) (max self.now.mark view.now.manifest.replay_after_wal_id) o last × Gives (GoesOn o view.now last self.now) view.now self.now taken)) }
+        ensures gone { IfOk result (λ taken. IfSome (S.objects store.old) (λ o. (last : ℕ) × IsLastTaken self.now.lag (number self.now) (max self.now.mark view.now.manifest.replay_after_wal_id) o last × GivesTaking (GoesOn o view.now last self.now) view.now self.now taken)) }
         ensures segments { (x : Option Extractor) → IsExtractor E.may_name E.may_extract (option_copied extractor.entry) x → HasSegments x self.now → IfOk result (HasOwn x) }
         ensures lacks { (x : Option Extractor) (key : List ℕ) → IsExtractor E.may_name E.may_extract (option_copied extractor.entry) x →
             result ≡ Err (SlateError.EmptySegmentPrefix key) → IfSome (S.objects store.old) (λ o. (last : ℕ) × IsLastTaken self.now.lag (number self.now) (max self.now.mark view.now.manifest.replay_after_wal_id) o last × ((first : List ℕ) × GoingLacks x o view.now last self.now first)) }
@@ -163,7 +163,7 @@ fn taking_all<S: Store, E: PrefixExtractor>(
     ensures kept { S.objects store.new ≡ S.objects store.old }
     ensures floor { IfOk result (λ taken. taken.line.floor ≡ view.now.manifest.last_l0_seq) }
     ensures builds { (reader : Follower) → reader.result ≡ None → reader.tasks ≡ follower_tasks reader.mode →
-        IfOk result (λ taken. IfSome (S.objects store.old) (λ o. Gives (Builds o reader.mode reader.skips reader.lag view.now last) view.now reader taken)) }
+        IfOk result (λ taken. IfSome (S.objects store.old) (λ o. GivesTaking (Builds o reader.mode reader.skips reader.lag view.now last) view.now reader taken)) }
     ensures segments { (x : Option Extractor) → IsExtractor E.may_name E.may_extract (option_copied extractor.entry) x → IfOk result (HasOwn x) }
     ensures lacks { (x : Option Extractor) (key : List ℕ) → IsExtractor E.may_name E.may_extract (option_copied extractor.entry) x →
         result ≡ Err (SlateError.EmptySegmentPrefix key) → IfSome (S.objects store.old) (λ o. BuildLacks x o view.now last key) }

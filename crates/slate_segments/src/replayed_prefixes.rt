@@ -1,7 +1,7 @@
 // The prefixes of the keys of batches that are replayed, and the refusal of a key without one.
 ghost use Rattle.std.specs.Prelude.{◌≡◌, ◌++◌, ◌⊎◌, ◌∷◌, Option, Some, None, OnOk, [], IfErr, IfOk};
 ghost use Rattle.std.specs.Option.{option_copied};
-ghost use Rattle.slate_status.specs.Segments.{AreRising};
+ghost use Rattle.slate_status.specs.Segments.{PrefixesRise};
 ghost use Rattle.slate_model.specs.Segments.{Extractor, IsExtractor, IsLawful, empty_refusal, ops_of, prefixes_of, segments_of, unsegmented_refusal};
 ghost use Rattle.slate_segments.specs.Prefixes.{HaveSame};
 ghost use Rattle.slate_segments.specs.Refusals.{IsOfSegment};
@@ -76,7 +76,7 @@ pub fn replayed_segments<E: PrefixExtractor>(
 ) -> Result<Vec<Bytes>, SlateError>
     ensures ok { (x : Option Extractor) → IsExtractor E.may_name E.may_extract (option_copied extractor.entry) x → IfOk result (λ segments.
         (unsegmented_refusal x (ops_of batches.now) ≡ None) × (segments.items ≡ segments_of x batches.now)) }
-    ensures rising { IfOk result (λ prefixes. AreRising prefixes.items) }
+    ensures rising { IfOk result (λ prefixes. PrefixesRise prefixes.items) }
     ensures err { (x : Option Extractor) → IsExtractor E.may_name E.may_extract (option_copied extractor.entry) x → IfErr result (λ error.
         (error ≡ SlateError.NoMemory) ⊎ (unsegmented_refusal x (ops_of batches.now) ≡ Some error)) }
     ensures kind { IfErr result IsOfSegment }

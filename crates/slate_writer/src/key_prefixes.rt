@@ -1,7 +1,7 @@
 // The segments of a handle's batches: the prefixes that its extractor cuts off their keys, and what refuses a key by them.
 ghost use Rattle.std.specs.Prelude.{◌≡◌, ◌++◌, ◌⊎◌, ◌∷◌, List, ℕ, Option, Some, None, OnOk, [], true, if◌then◌else◌, IfErr, IfOk, IfSome};
 ghost use Rattle.std.specs.Option.{option_copied};
-ghost use Rattle.slate_status.specs.Segments.{AreRising};
+ghost use Rattle.slate_status.specs.Segments.{PrefixesRise};
 ghost use Rattle.slate_model.specs.Segments.{Extractor, IsExtractor, IsLawful, key_refusal, nest, nesting_refusal, prefixes_of, segment_refusal};
 ghost use Rattle.slate_model.specs.Write.{IsOfSegments};
 ghost use Rattle.slate_segments.specs.Prefixes.{HaveSame};
@@ -72,7 +72,7 @@ fn least_conflict<'a>(known: &'a [Bytes], prefix: &[u8]) -> Option<&'a Bytes>
 
 /// Where a prefix stands among these, which rise, or where it belongs. It takes a logarithm of them.
 fn place(known: &[Bytes], prefix: &[u8]) -> Result<usize, usize>
-    requires { AreRising known.now }
+    requires { PrefixesRise known.now }
     ensures { IsPlace known.now prefix.now result }
 {
     known.binary_search_by(|other| other.as_slice().cmp(prefix))
@@ -80,7 +80,7 @@ fn place(known: &[Bytes], prefix: &[u8]) -> Result<usize, usize>
 
 /// The one of these prefixes, which rise, that is this one.
 fn same<'a>(known: &'a [Bytes], prefix: &[u8]) -> Option<&'a Bytes>
-    requires { AreRising known.now }
+    requires { PrefixesRise known.now }
     ensures { IsSame known.now prefix.now (option_copied result) }
 {
     match place(known, prefix) {
@@ -91,7 +91,7 @@ fn same<'a>(known: &'a [Bytes], prefix: &[u8]) -> Option<&'a Bytes>
 
 /// The least of these prefixes, which rise, above one.
 fn next<'a>(known: &'a [Bytes], prefix: &[u8]) -> Option<&'a Bytes>
-    requires { AreRising known.now }
+    requires { PrefixesRise known.now }
     ensures { IsNext known.now prefix.now (option_copied result) }
 {
     let above = match place(known, prefix) {
@@ -108,7 +108,7 @@ fn next<'a>(known: &'a [Bytes], prefix: &[u8]) -> Option<&'a Bytes>
 /// The least of these prefixes, which rise, that nests with one. It takes a logarithm of them for each byte of that: one that
 /// begins it is below all that it begins, and the least of these is the next one above it.
 fn least_nesting<'a>(known: &'a [Bytes], prefix: &[u8]) -> Option<&'a Bytes>
-    requires { AreRising known.now }
+    requires { PrefixesRise known.now }
     ensures { IsConflict known.now prefix.now (option_copied result) }
 {
     for n in 0..prefix.len() {
@@ -126,7 +126,7 @@ fn least_nesting<'a>(known: &'a [Bytes], prefix: &[u8]) -> Option<&'a Bytes>
 
 /// Whether prefixes rise.
 pub(crate) fn rise(prefixes: &[Bytes]) -> bool
-    ensures { result ≡ true → AreRising prefixes.now }
+    ensures { result ≡ true → PrefixesRise prefixes.now }
 {
     for i in 1..prefixes.len() {
         if prefixes[i - 1] >= prefixes[i] {
@@ -138,9 +138,9 @@ pub(crate) fn rise(prefixes: &[Bytes]) -> bool
 
 /// Takes a prefix that wasn't taken yet, among those that were, which rise.
 fn take(alloc: Global, taken: &mut Vec<Bytes>, prefix: &[u8]) -> Result<(), NoMemory>
-    requires { AreRising taken.old.items }
+    requires { PrefixesRise taken.old.items }
     ensures same { OnOk result (HaveSame taken.new.items (taken.old.items ++ prefix.now ∷ [])) }
-    ensures rising { AreRising taken.new.items }
+    ensures rising { PrefixesRise taken.new.items }
 {
     if let Err(i) = place(taken.as_slice(), prefix) {
         taken.insert(i, Bytes::copy_from_slice(alloc, prefix)?)?;
@@ -150,7 +150,7 @@ fn take(alloc: Global, taken: &mut Vec<Bytes>, prefix: &[u8]) -> Result<(), NoMe
 
 /// The least of the stored prefixes that nests with one: by a search, where they are known to rise.
 fn stored_conflict<'a>(stored: &'a [Bytes], rising: bool, prefix: &[u8]) -> Option<&'a Bytes>
-    requires { rising ≡ true → AreRising stored.now }
+    requires { rising ≡ true → PrefixesRise stored.now }
     ensures { IsConflict stored.now prefix.now (option_copied result) }
 {
     if rising {
@@ -168,9 +168,9 @@ fn conflict<'a>(
     taken: &'a [Bytes],
     prefix: &[u8],
 ) -> Option<&'a Bytes>
-    requires stored { rising ≡ true → AreRising stored.now }
-    requires segments { AreRising segments.now }
-    requires taken { AreRising taken.now }
+    requires stored { rising ≡ true → PrefixesRise stored.now }
+    requires segments { PrefixesRise segments.now }
+    requires taken { PrefixesRise taken.now }
     ensures { IsConflict (stored.now ++ (segments.now ++ taken.now)) prefix.now (option_copied result) }
 {
     let among_batches = lesser(
@@ -189,9 +189,9 @@ fn nesting_refusal(
     taken: &[Bytes],
     prefix: &[u8],
 ) -> Result<Option<SlateError>, NoMemory>
-    requires stored { rising ≡ true → AreRising stored.now }
-    requires segments { AreRising segments.now }
-    requires taken { AreRising taken.now }
+    requires stored { rising ≡ true → PrefixesRise stored.now }
+    requires segments { PrefixesRise segments.now }
+    requires taken { PrefixesRise taken.now }
     ensures refusal { (all : List (List ℕ)) → HaveSame all (stored.now ++ (segments.now ++ taken.now)) →
         IfOk result (λ refusal. refusal ≡ nesting_refusal all (Some prefix.now)) }
     ensures kind { IfOk result (λ refusal. IfSome refusal IsOfSegments) }
@@ -213,14 +213,14 @@ fn take_prefix<E: PrefixExtractor>(
     taken: &mut Vec<Bytes>,
     key: &Bytes,
 ) -> Result<(), SlateError>
-    requires stored { rising ≡ true → AreRising stored.now }
-    requires segments { AreRising segments.now }
-    requires taken { AreRising taken.old.items }
+    requires stored { rising ≡ true → PrefixesRise stored.now }
+    requires segments { PrefixesRise segments.now }
+    requires taken { PrefixesRise taken.old.items }
     ensures ok { (x : Extractor) (all : List (List ℕ)) → IsLawful E.may_name E.may_extract extractor.now x → HaveSame all (stored.now ++ (segments.now ++ taken.old.items)) →
         OnOk result (key_refusal all key.now (x.prefix_of key.now) ≡ None) }
     ensures taken_ { (x : Extractor) (op : KeyOp) → IsLawful E.may_name E.may_extract extractor.now x → op.key ≡ key.now →
         OnOk result (HaveSame taken.new.items (taken.old.items ++ prefixes_of x (op ∷ []))) }
-    ensures rising { AreRising taken.new.items }
+    ensures rising { PrefixesRise taken.new.items }
     ensures err { (x : Extractor) (all : List (List ℕ)) → IsLawful E.may_name E.may_extract extractor.now x → HaveSame all (stored.now ++ (segments.now ++ taken.old.items)) →
         IfErr result (λ error. (error ≡ SlateError.NoMemory) ⊎ (key_refusal all key.now (x.prefix_of key.now) ≡ Some error)) }
     ensures kind { IfErr result (λ error. (error ≡ SlateError.NoMemory) ⊎ IsOfSegments error) }
@@ -249,8 +249,8 @@ pub(crate) fn take_prefixes<E: PrefixExtractor>(
     segments: &[Bytes],
     ops: &[KeyOp],
 ) -> Result<Vec<Bytes>, SlateError>
-    requires stored { rising ≡ true → AreRising stored.now }
-    requires segments { AreRising segments.now }
+    requires stored { rising ≡ true → PrefixesRise stored.now }
+    requires segments { PrefixesRise segments.now }
     ensures ok { (x : Option Extractor) → IsExtractor E.may_name E.may_extract (option_copied extractor.entry) x → IfOk result (λ taken.
         (segment_refusal x (stored.now ++ segments.now) ops.now ≡ None) × HaveSame taken.items (prefixes_by x ops.now)) }
     ensures err { (x : Option Extractor) → IsExtractor E.may_name E.may_extract (option_copied extractor.entry) x → IfErr result (λ error.

@@ -3,7 +3,7 @@ use Rattle.std.specs.Option.{option_copied}
 use Rattle.std.proofs.lemmas.List.{drop_all, take_all}
 use Rattle.std.proofs.lemmas.Result.{err_from_is_err_and}
 use Rattle.slate_errors.specs.declared.errors.SlateError.TheVariants.{NoMemory}
-use Rattle.slate_status.specs.Segments.{AreRising}
+use Rattle.slate_status.specs.Segments.{PrefixesRise}
 use Rattle.slate_model.specs.Segments.{Extractor, IsExtractor, ops_of, prefixes_of, segments_of, unsegmented_refusal}
 use Rattle.slate_segments.specs.Prefixes.{HaveSame}
 use Rattle.slate_segments.proofs.Taking.{batch-here, batch-next, ops-more, same-push, segments-replayed}
@@ -52,5 +52,5 @@ returns-clause-ok g c x lawful =
           let listed = c.in_ok-listed.ensures.listed in
           let took = subst (λ bs. HaveSame c.loop-batch.taken.keys (prefixes_of y (ops_of bs))) (take_all n batches c.loop-batch-test.false) i.1 in (
             i.0 ∙ ap (λ bs. unsegmented_refusal (Some y) (ops_of bs)) (drop_all n batches c.loop-batch-test.false),
-            listed ∙ segments-replayed y c.loop-batch.taken.keys batches (subst AreRising listed c.in_ok-listed.ensures.rising) took,
+            listed ∙ segments-replayed y c.loop-batch.taken.keys batches (subst PrefixesRise listed c.in_ok-listed.ensures.rising) took,
           )

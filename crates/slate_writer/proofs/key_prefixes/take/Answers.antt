@@ -2,7 +2,7 @@ use Rattle.std.proofs.Common.{◌≡◌, ◌++◌, ◌∷◌, [], Ok, Err, ap, s
 use Rattle.std.specs.List.{insert}
 use Rattle.slate_segments.specs.Prefixes.{HaveSame}
 use Rattle.slate_segments.proofs.Prefixes.{same-known}
-use Rattle.slate_status.specs.Segments.{AreRising}
+use Rattle.slate_status.specs.Segments.{PrefixesRise}
 use Rattle.slate_writer.proofs.Orders.{placed, rising-insert, same-insert, same-some}
 use Rattle.slate_writer.proofs.key_prefixes.take.Goals as goal
 
@@ -25,4 +25,4 @@ returns-in_ok-insert-clause-rising c =
     let p = c.args.prefix.now in
     let is : c.insert.new.self.items ≡ insert ks c.in-Err.i p = c.in_ok-insert.ensures.items ∙ ap (insert ks c.in-Err.i) c.in_ok-copy_from_slice.ensures in
     let at = placed c.as_slice.result.now ks p c.place.result (Err c.in-Err.i) c.as_slice.ensures.value c.in-Err.is c.place.ensures in
-    subst AreRising (sym is) (rising-insert ks c.in-Err.i p c.requires at.1 at.2)
+    subst PrefixesRise (sym is) (rising-insert ks c.in-Err.i p c.requires at.1 at.2)

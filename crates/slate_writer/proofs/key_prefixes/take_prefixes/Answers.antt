@@ -3,7 +3,7 @@ use Rattle.std.specs.Option.{option_copied}
 use Rattle.std.proofs.lemmas.List.{drop_all, take_all}
 use Rattle.std.proofs.lemmas.Result.{err_from_is_err_and}
 use Rattle.slate_errors.specs.declared.errors.SlateError.TheVariants.{NoMemory}
-use Rattle.slate_status.specs.Segments.{AreRising}
+use Rattle.slate_status.specs.Segments.{PrefixesRise}
 use Rattle.slate_model.specs.Segments.{Extractor, IsExtractor, ops_refusal, prefixes_of, segment_refusal}
 use Rattle.slate_segments.specs.Prefixes.{HaveSame}
 use Rattle.slate_segments.proofs.Prefixes.{no-rising}
@@ -15,7 +15,7 @@ pub take_prefix-requires-clause-taken : goal.take_prefix-requires-clause-taken
 take_prefix-requires-clause-taken g c = c.loop-op.invariant.1
 
 pub loop-op-init : goal.loop-op-init
-loop-op-init g c = (search rules, subst AreRising (sym c.new-taken.ensures.items) no-rising)
+loop-op-init g c = (search rules, subst PrefixesRise (sym c.new-taken.ensures.items) no-rising)
 
 pub loop-op-preserved : goal.loop-op-preserved
 loop-op-preserved g c = (

@@ -50,7 +50,7 @@ write_live-ending-requires g c =
 
 pub returns-clause-ran : goal.returns-clause-ran
 returns-clause-ran g c =
-    let words = c.args.words in
+    let words = c.args.opened.words in
     let options = words.options in
     let merge = option_map (λ operator. concat) options.operator in
     let lawful = subst (λ o. IsOperator (λ operator key existing operand answer. answer ≡ concat key existing operand) o merge) (sym c.as_ref.ensures.value) (appends options.operator) in

@@ -8,12 +8,14 @@ use slate_calls::operators::{Cuts, Refusing, extractor_of, operator_of};
 use slate_calls::store_calls::call_store;
 use slate_calls::subjects::Subject;
 use slate_calls::told_stores::ToldStore;
+use slate_follow::PublishedState;
 use slate_live::{Command, LineAnswer, LiveState, Options, print_replies, read_line};
 use slate_reads::IndexedTable;
 use slate_replay::replay;
 use slate_route::Router;
 use slate_writer::{BoardWatch, Transaction, WriterState};
 use std::alloc::Global;
+use std::sync::Arc;
 use uuid::Uuid;
 
 const OPTIONS: Options = Options {
@@ -70,6 +72,7 @@ pub struct Database {
     /// The transactions of the handle in the order in which they began, but for those that ended.
     pub transactions: Vec<Option<Transaction>>,
     pub reader: Option<PolledReader>,
+    pub published: Option<Arc<PublishedState, Global>>,
     pub feed: Option<SteppedFeed>,
     pub router: Router,
     checkpoints: Vec<Uuid>,
@@ -86,6 +89,7 @@ impl Drop for Database {
             watch: _,
             transactions: _,
             reader: _,
+            published: _,
             feed: _,
             router: _,
             checkpoints: _,
@@ -105,6 +109,7 @@ impl Database {
             watch: None,
             transactions: Vec::new(alloc),
             reader: None,
+            published: None,
             feed: None,
             router: Router::new(alloc),
             checkpoints: Vec::new(alloc),

@@ -26,6 +26,7 @@ enum Call {
     Step,
     Mark,
     Tables,
+    Publish,
     First,
 }
 
@@ -38,6 +39,7 @@ const CALLS: &[(&[u8], Call)] = &[
     (b"step", Call::Step),
     (b"mark", Call::Mark),
     (b"tables", Call::Tables),
+    (b"publish", Call::Publish),
     (b"first", Call::First),
 ];
 
@@ -129,6 +131,13 @@ impl Database {
         match call {
             Call::Mark => line.print_number(reader.mark()),
             Call::Tables => line.print_number(reader.tables_in_memory()),
+            Call::Publish => {
+                let published = reader.published(line.alloc());
+                if let Some(state) = line.made(published) {
+                    line.print_number(state.number());
+                    self.published = Some(state);
+                }
+            }
             _ => scan_first(reader, &mut self.store, self.operator.as_ref(), line),
         }
     }

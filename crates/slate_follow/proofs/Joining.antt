@@ -7,6 +7,7 @@ use Rattle.slate_types.specs.declared.batches.Batch.{Batch}
 use Rattle.slate_types.specs.Line.{AreNumberedFrom, batches_above}
 use Rattle.slate_reads.specs.Index.{AreRising}
 use Rattle.slate_model.proofs.Free.{numbered-front, numbered-rising}
+use Rattle.slate_model.proofs.Reopened.{numbered_rest}
 use Rattle.slate_follow.specs.Joined.{joined}
 use Rattle.slate_follow.proofs.Above.{above-append}
 
@@ -43,6 +44,15 @@ module _ (tables : List (List Batch)) (i : ℕ) (table : List Batch) (inside : i
 module _ (tables : List (List Batch)) (i : ℕ) (more : List Batch) where
   pub joined-last : joined (take i tables) ++ (joined (drop i tables) ++ more) ≡ joined tables ++ more
   joined-last = sym (append_assoc (joined (take i tables)) (joined (drop i tables)) more) ∙ ap (λ xs. xs ++ more) (joined-split tables i)
+
+-- the last two of them
+module _ (tables : List (List Batch)) (older newest : List Batch) where
+  pub joined-two : joined ((tables ++ older ∷ []) ++ newest ∷ []) ≡ joined tables ++ (older ++ newest)
+  joined-two = joined-push (tables ++ older ∷ []) newest ∙ (ap (λ xs. xs ++ newest) (joined-push tables older) ∙ append_assoc (joined tables) older newest)
+
+  -- and rise, where all are numbered
+  pub two-rise : (floor : ℕ) → AreNumberedFrom floor (joined ((tables ++ older ∷ []) ++ newest ∷ [])) → AreRising (older ++ newest)
+  two-rise floor numbered = numbered-rising (floor + length (joined tables)) (older ++ newest) (numbered_rest floor (joined tables) (older ++ newest) (subst (AreNumberedFrom floor) joined-two numbered))
 
 pub on-ok : {A E : Type 0} {P Q : Type 0} (r : Result A E) → (P → Q) → OnOk r P → OnOk r Q
 on-ok (Ok x) f h = f h

@@ -2,11 +2,10 @@
 // which small ones are joined.
 ghost use Rattle.std.specs.Prelude.{◌≡◌, ◌+◌, ◌≤◌, ◌++◌, ℕ, length, IfOk, OnOk};
 ghost use Rattle.slate_types.specs.Line.{AreNumberedFrom, batches_above};
-ghost use Rattle.slate_reads.specs.Index.{AreRising};
 ghost use Rattle.slate_follow.specs.Joined.{AreFilled, joined};
 
 use slate_reads::{IndexedTable, Table};
-use slate_types::{Batch, NoMemory};
+use slate_types::NoMemory;
 use std::alloc::Global;
 
 /// A list of a table, and of none where it has no batch.
@@ -113,21 +112,30 @@ fn join(alloc: Global, tables: &[Table], table: &IndexedTable) -> Result<Indexed
 {
     let mut whole = IndexedTable::new(alloc);
     for older in tables {
-        push_copies(&mut whole, older.batches())?;
+        whole.push_all(older.batches())?;
     }
-    push_copies(&mut whole, table.batches())?;
+    whole.push_all(table.batches())?;
     Ok(whole)
 }
 
-/// Adds copies of batches to a table. Where that fails, it has some of them.
-fn push_copies(table: &mut IndexedTable, batches: &[Batch]) -> Result<(), NoMemory>
-    requires { AreRising (table.old ++ batches.now) }
-    ensures { OnOk result (table.new ≡ table.old ++ batches.now) }
+/// Adds the newest table to the one before it, where nobody shares that and it has fewer than `limit` bytes. So a reader whose tables
+/// nobody shares keeps one, and a batch is indexed twice.
+pub(crate) fn join_newest(tables: &mut Vec<Table>, limit: u64)
+    requires { (floor : ℕ) × AreNumberedFrom floor (joined tables.old.items) }
+    ensures same { joined tables.new.items ≡ joined tables.old.items }
+    ensures filled { AreFilled tables.old.items → AreFilled tables.new.items }
 {
-    for batch in batches {
-        if table.push(batch.clone()?).is_err() {
-            return Err(NoMemory);
-        }
+    let Some(newest) = tables.pop() else {
+        return;
+    };
+    let Some(mut older) = tables.pop() else {
+        tables.push_reserved(newest);
+        return;
+    };
+    if older.indexed().size() < limit && older.append_alone(newest.batches()) {
+        tables.push_reserved(older);
+        return;
     }
-    Ok(())
+    tables.push_reserved(older);
+    tables.push_reserved(newest);
 }

@@ -13,7 +13,7 @@ ghost use Rattle.slate_follow.specs.Takings.{HasOwn, installed};
 
 use crate::rebuilds::answer_of;
 use crate::segments::{segments_in, with_segments};
-use crate::tables::{add_table, list_of, tables_above};
+use crate::tables::{add_table, join_newest, list_of, tables_above};
 use crate::{FollowerState, PollAnswer};
 use bytes::Bytes;
 use slate_errors::SlateError;
@@ -156,6 +156,7 @@ impl FollowerState {
             replayed,
         } = taken;
         self.kept = tables;
+        join_newest(&mut self.kept, self.limit);
         self.number = number;
         self.segments = segments;
         self.mark = mark;

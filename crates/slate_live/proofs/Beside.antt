@@ -1,12 +1,10 @@
 -- A reader beside a world, and a begun poll of it, stand from call to call.
-use Rattle.std.proofs.Common.{◌≡◌, ◌∙◌, ◌⊎◌, ℕ, ℤ, ◌+◌, ◌-◌, ◌<◌, ◌≤◌, ◌++◌, ◌||◌, ◌==◌, max, inl, inr, Bool, true, false, if◌then◌else◌, All, List, [], ◌∷◌, drop, length, Option, Some, None, Result, Ok, Err, refl, sym, ap, subst, arith}
+use Rattle.std.proofs.Common.{◌≡◌, ◌∙◌, ◌⊎◌, ℕ, ℤ, ◌+◌, ◌-◌, ◌<◌, ◌≤◌, ◌++◌, ◌==◌, max, inl, inr, Bool, true, false, if◌then◌else◌, All, List, [], ◌∷◌, length, Option, Some, None, Result, Ok, Err, refl, sym, ap, subst, arith}
 use Rattle.std.proofs.lemmas.Bool.{cases_lt}
-use Rattle.std.proofs.lemmas.List.{length-take}
 use Rattle.std.proofs.lemmas.List.Elements.{All-cons, All-contains_itself, All-nil}
 use Rattle.std.specs.List.{slice_get}
-use Rattle.std.specs.Option.{IfSome, IsSomeAnd, MatchOption, is_some}
-use Rattle.slate_types.proofs.Lines.{above-all, above-drop, numbered-drop}
-use Rattle.slate_types.specs.Line.{AreNumberedFrom, IsPrefix, Line, batches_above, end}
+use Rattle.std.specs.Option.{IsSomeAnd, MatchOption, is_some}
+use Rattle.slate_types.specs.Line.{AreNumberedFrom, Line, batches_above, end}
 use Rattle.slate_types.specs.declared.batches.Batch.{Batch}
 use Rattle.slate_types.specs.declared.store_errors.StoreFault.TheVariants.{Unavailable}
 use Rattle.slate_store.specs.Checkpoints.{with_checkpoints}
@@ -21,241 +19,48 @@ use Rattle.slate_replay.specs.declared.replays.Replayed.TheVariants as replays
 use Rattle.slate_errors.specs.declared.errors.SlateError.{SlateError}
 use Rattle.slate_errors.specs.declared.errors.SlateError.TheVariants as errors
 use Rattle.slate_model.specs.Begun.{AsksLast, Begun, Breaks, Ended, Ends, Fails, Goes, LooksAt, Puts, ReadsAgain, ReadsLatest, ReadsLog, Stage, Turn, arrived, base_of, begun_at, decided, kept_batches, reached_number, replayed, view_of, no_step, noted, read_log, taken, with_latest, with_step}
-use Rattle.slate_model.specs.Catalogue.{Catalogue, catalogue_of}
+use Rattle.slate_model.specs.Catalogue.{catalogue_of}
 use Rattle.slate_model.specs.declared.answers.PollAnswer.{PollAnswer}
 use Rattle.slate_model.specs.declared.answers.PollAnswer.TheVariants as answers
 use Rattle.slate_model.specs.declared.leases.Lease.{Lease}
 use Rattle.slate_model.specs.declared.polls.PollHistory.{PollHistory}
 use Rattle.slate_model.specs.Follow.{come_by}
 use Rattle.slate_model.specs.Follower.{Follower, is_managed, is_pinned, kept_follower, number, unsegmented}
-use Rattle.slate_model.specs.Followed.{IsView}
 use Rattle.slate_model.specs.Handle.{up_to}
 use Rattle.slate_model.specs.Known.{Known}
 use Rattle.slate_model.specs.Object.{Follower as AFollower, Object}
 use Rattle.slate_model.specs.Seen.{HasSeen}
 use Rattle.slate_model.specs.Stood.{IsPlanned, WasLatest}
-use Rattle.slate_model.proofs.Coming.{Come, Comes, IsStagedNext, Ways, again-comes, arrived-kept, asked-comes, committed-comes, decided-comes, looked-comes, overtaken-comes, planned-other, read-on, replayed-comes, restaged, start-comes}
-use Rattle.slate_model.proofs.Free.{numbered-front}
-use Rattle.slate_model.proofs.Fronts.{fresh-within, front-begins, front-end, front-grown, numbered-take, reads-front, seen-as, seen-log, whole-front}
+use Rattle.slate_model.proofs.Coming.{Come, Comes, again-comes, arrived-kept, asked-comes, committed-comes, looked-comes, overtaken-comes, planned-other, read-on, replayed-comes, restaged}
+use Rattle.slate_model.proofs.Fronts.{fresh-within, front-end, seen-as, seen-log}
 use Rattle.slate_model.proofs.Keeping.{line_above-end}
 use Rattle.slate_model.proofs.Maintained.{Maintained, put-latest}
-use Rattle.slate_model.proofs.Owing.{tabled, view-tables}
-use Rattle.slate_model.proofs.Prefixes.{prefix-end}
+use Rattle.slate_model.proofs.Owing.{tabled}
 use Rattle.slate_model.proofs.Putting.{free-at, put-maintains, was-put}
-use Rattle.slate_model.proofs.Logging.{LogsAre, LogsFollow, LogsGo, OfLine, PastLine, none-put_logs, stay-follow}
+use Rattle.slate_model.proofs.Logging.{LogsAre, LogsFollow, none-put_logs, stay-follow}
 use Rattle.slate_model.proofs.Stale.{latest-entry, stale-latest}
 use Rattle.slate_model.proofs.Reduced.{some-same}
-use Rattle.slate_follow.proofs.Following.{are-above, are-grown, begins-on, begins-rest, goes-on, log-begins, logs-of, no-gap-rises, others-keep}
+use Rattle.slate_follow.proofs.Following.{are-above, are-grown, begins-on, goes-on, log-begins, no-gap-rises}
 use Rattle.slate_follow.specs.Following.{AreOf, FollowsLine, IsReplaying, StandsAt}
-use Rattle.slate_follow.specs.Lasting.{Lasts, OthersAct}
-use Rattle.slate_follow.proofs.Lasting.{begins-last, follows-acts, lasts-goes, others-last}
+use Rattle.slate_follow.proofs.Lasting.{begins-last, lasts-goes}
 use Rattle.slate_follow.specs.Stepping.{FailsFrom, LeavesPut, LooksTo, Meets, MeetsAt, StepFails, Steps, log_turn, reads_latest}
-use Rattle.slate_script.specs.declared.commands.Command.{Command}
-use Rattle.slate_script.specs.declared.replies.Reply.{Reply}
-use Rattle.slate_live.specs.Settings.{Settings}
-use Rattle.slate_live.specs.Beside.{OthersLeaveThem, PollsBegin, ReadersStand, StandsAfter, StepsStand}
+use Rattle.slate_live.specs.Beside.{StandsAfter}
 use Rattle.slate_live.specs.Reaching.{IsApart, IsCovered, IsCoveredBy, ReachesAt, ReachesTo}
 use Rattle.slate_live.specs.Rising.{FollowerRises}
-use Rattle.slate_live.specs.Standing.{IsBareAt, IsStaged, PollStands, StandsBeside, comes_to, placed, tabled_by}
-use Rattle.slate_live.proofs.Reaching.{AreLate, Reaches, again-reaches, anew-then, asked-reaches, committed-reaches, content-covered, decided-reaches, late-news, looked-reaches, overtaken-reaches, reaches-then, read-reaches, seen-covered}
-use Rattle.slate_live.specs.Represents.{AreOfPast, Holds, IsFollowerAt, IsHeld, IsReached, IsValid, RepresentsObjects}
+use Rattle.slate_live.specs.Standing.{IsStaged, PollStands, StandsBeside, comes_to, placed, tabled_by}
+use Rattle.slate_live.proofs.Reaching.{AreLate, Reaches, again-reaches, anew-then, asked-reaches, committed-reaches, content-covered, decided-reaches, looked-reaches, overtaken-reaches, reaches-then, read-reaches, seen-covered}
+use Rattle.slate_live.specs.Represents.{Holds, IsFollowerAt, IsHeld, IsValid, RepresentsObjects}
 use Rattle.slate_live.specs.State.{Live}
-use Rattle.slate_live.specs.World.{NextWhole, World}
+use Rattle.slate_live.specs.World.{World}
 use Rattle.slate_live.proofs.Advancing.{Advanced, Advances, IsAbove, again-advances, asked-advances, committed-advances, cut-advances, decided-advances, looks-advance, overtaken-advances, read-advances, start-advances}
-use Rattle.slate_live.proofs.Cases.{if-some, is-none}
-use Rattle.slate_live.proofs.Following.{new-held, owed-lined, view-stored}
+use Rattle.slate_live.proofs.Cases.{is-none}
 use Rattle.slate_live.proofs.Chains.{reached}
-use Rattle.slate_live.proofs.Knowing.{unchanged-objects}
-use Rattle.slate_live.proofs.Leases.{entry-after, latest-after, nothing-spared}
-use Rattle.slate_live.proofs.Begun.{are-left, left_polls}
-use Rattle.slate_live.proofs.Growing.{grows}
-use Rattle.slate_live.proofs.Representing.{BesideThen, leads-beside}
-use Rattle.slate_live.proofs.Leading.{stored-before, stored-past, valid-over}
+use Rattle.slate_live.proofs.KnownFollower.{unchanged-objects}
 use Rattle.slate_live.proofs.Maintaining.{maintained-leads}
 use Rattle.slate_live.proofs.Skipping.{meets-bare}
-use Rattle.slate_live.proofs.Planning.{HasPlan, meets-planned, staged-leased, staged-planned}
+use Rattle.slate_live.proofs.Planning.{meets-planned, staged-leased, staged-planned}
 use Rattle.slate_live.proofs.Onward.{beside-onward, onward-maintained}
-
-or-true : (b : Bool) → (b || true) ≡ true
-or-true true = refl
-or-true false = refl
-
-module _ (w : World) (o : Objects) (sound : IsSound o) (holds : Holds o w) (valid : IsValid w) (reads : (n : ℕ) (x : Object) → slice_get w.objects n ≡ Some x → IsHeld o x) (reader : Follower) (unpinned : is_pinned reader.mode ≡ false) where
-  abbrev P : Follower → Type 0
-  P f = StandsBeside o w f
-
-  abbrev kept : Follower
-  kept = kept_follower reader
-
-  -- ---- how one that stands goes on
-  pub ways : Ways w.stored valid.line o reader P
-  ways = record {
-    again = λ view n m n' m' lease lease' s low low' floor within leased fewer seen.
-        let count = length-take (n - w.stored.floor) w.stored.batches in
-        let here = front-end w.stored valid.line n' floor within in
-        record {
-          valid = (
-            front-begins n' w.stored,
-            λ skips free latest is. (let before = s.valid.1 skips free latest is in let few = fewer skips in omega (arith, count, here, before, few, floor, within)),
-            λ managed live. leased ∙ managed,
-            s.valid.3,
-          );
-          named = s.named;
-          past = s.past;
-          held = (reads-front w.stored valid.line o view n n' low low' s.held.0, λ free. seen);
-        };
-    seen = λ view n m lease s. s.held.1 unpinned;
-  }
-
-  -- ---- the latest manifest
-  module _ (l : VersionedManifest) (is : latest_manifest o ≡ Some l) where
-    abbrev tabled_at : ℕ
-    tabled_at = l.manifest.last_l0_seq
-
-    goes : IsView modes.FollowLatest false o l
-    goes = (l, is, or-true l.manifest.initialized, refl)
-
-    latest-low : w.stored.floor ≤ tabled_at
-    latest-low = subst (λ (x : Line). x.floor ≤ tabled_at) holds.stored (logs-of o l sound is).low
-
-    pub latest-high : tabled_at ≤ end w.stored
-    latest-high = subst (λ (x : Line). tabled_at ≤ end x) holds.stored (tabled o l.manifest (content o) (view-tables o modes.FollowLatest false l sound goes) sound.line)
-
-    latest-stands : (lease : Option Lease) → is_some lease ≡ is_managed reader.mode → P (tabled_by w.stored reader l lease)
-    latest-stands lease leased =
-        let stored = view-stored w.stored modes.FollowLatest true false o l sound holds.stored goes in
-        let lined = owed-lined w.stored modes.FollowLatest true false o l sound holds.stored goes 0 l.manifest.replay_after_wal_id refl in
-        let held = new-held [] w.stored modes.FollowLatest true false 0 o l goes (up_to tabled_at w.stored) l.manifest.replay_after_wal_id lined in
-        let here = front-end w.stored valid.line tabled_at latest-low latest-high in
-        record {
-          valid = (
-            front-begins tabled_at w.stored,
-            λ skips free found at.
-                let same : l ≡ found = some-same l found (sym is ∙ (ap latest_manifest holds.catalogue ∙ at)) in
-                let e = ap (λ (v : VersionedManifest). v.manifest.last_l0_seq) same in
-                omega (arith, here, e),
-            λ managed live. leased ∙ managed,
-            λ free found at.
-                let same : l ≡ found = some-same l found (sym is ∙ (ap latest_manifest holds.catalogue ∙ at)) in
-                let e = ap (λ (v : VersionedManifest). v.manifest.last_l0_seq) same in
-                omega (arith, e),
-          );
-          named = λ n a at. stored-before w.stored o a (valid-over w o sound holds valid reads n a at) l.manifest.tables stored;
-          past = subst (λ c. AreOfPast c l.manifest.tables) holds.catalogue (stored-past o l sound is l.manifest.tables stored);
-          held = (held.0, λ free. seen-as o _ (tabled_by w.stored reader l lease) refl (omega arith) (held.1 refl));
-        }
-
-    latest-read : (lease : Option Lease) → is_some lease ≡ is_managed reader.mode → WasLatest o l × (w.stored.floor ≤ tabled_at) × (tabled_at ≤ end w.stored) × P (tabled_by w.stored reader l lease)
-    latest-read lease leased = ((l, is, omega arith, λ same. refl), latest-low, latest-high, latest-stands lease leased)
-
-  -- ---- the reader itself
-  module _ (s : StandsBeside o w reader) (keeps : kept.line.floor ≡ reader.view.manifest.last_l0_seq) where
-    whole-is : reader.line ≡ up_to (number reader) w.stored
-    whole-is = whole-front reader.line w.stored s.valid.0
-
-    number-is : number kept ≡ number reader
-    number-is = line_above-end reader.view.manifest.last_l0_seq reader.line
-
-    number-within : number reader ≤ end w.stored
-    number-within = prefix-end reader.line w.stored s.valid.0
-
-    floor-is : reader.line.floor ≡ w.stored.floor
-    floor-is = ap (λ (l : Line). l.floor) whole-is
-
-    number-low : w.stored.floor ≤ number reader
-    number-low = let e = floor-is in omega (arith, e)
-
-    numbered-whole : AreNumberedFrom reader.line.floor reader.line.batches
-    numbered-whole = subst (λ (l : Line). AreNumberedFrom l.floor l.batches) (sym whole-is) (numbered-take w.stored.floor (number reader - w.stored.floor) w.stored.batches valid.line)
-
-    view-reached : reader.view.manifest.last_l0_seq ≤ number reader
-    view-reached = let e = number-is in omega (arith, e, keeps)
-
-    view-low : w.stored.floor ≤ reader.view.manifest.last_l0_seq
-    view-low = elim (cases_lt reader.view.manifest.last_l0_seq w.stored.floor) [
-      | inl less ↦
-          let e = floor-is in
-          let all = above-all reader.line.floor reader.view.manifest.last_l0_seq reader.line.batches numbered-whole (omega (arith, less, e)) in
-          let count = ap (λ (xs : List Batch). length xs) all in
-          absurd (omega (arith, less, e, count, keeps))
-      | inr over ↦ over
-    ]
-
-    whole-placed : P (placed w.stored reader reader.view (number reader) reader.mark reader.lease)
-    whole-placed =
-        let base : P (record reader { segments = [] }) = record {
-          valid = s.valid;
-          named = s.named;
-          past = s.past;
-          held = (s.held.0, λ free. seen-as o reader (record reader { segments = [] }) refl (omega arith) (s.held.1 free));
-        } in
-        subst (λ (l : Line). P (record reader { line = l; segments = [] })) whole-is base
-
-    pub begun-comes : (leased : is_some reader.lease ≡ is_managed reader.mode) (moment : ℤ) (overtaken : ℕ) (history : PollHistory) → Come w.stored valid.line o reader P (WasLatest o) (begun_at moment overtaken history kept)
-    begun-comes leased moment overtaken history = start-comes w.stored valid.line o reader P (WasLatest o) ways leased number-is number-low number-within view-low view-reached whole-placed moment overtaken history
-
-    pub latest-decided : (leased : is_some reader.lease ≡ is_managed reader.mode) (moment : ℤ) (overtaken : ℕ) (history : PollHistory) (l : VersionedManifest) → latest_manifest o ≡ Some l →
-        Comes w.stored valid.line o reader P (WasLatest o) ways (decided kept l reader.lease (record (begun_at moment overtaken history kept) { stage = Ended }))
-    latest-decided leased moment overtaken history l is =
-        decided-comes w.stored valid.line o reader P (WasLatest o) ways leased number-is number-low number-within view-low view-reached whole-placed moment overtaken history l (latest-read l is reader.lease leased)
-
-    -- ---- a begun poll
-    poll-comes : (begun : Begun) → PollStands o w reader begun → AreNumberedFrom begun.floor begun.fresh → Come w.stored valid.line o reader P (WasLatest o) begun
-    poll-comes begun p numbered =
-        let f = p.follows in
-        let begins = begins-rest w.stored valid.line begun.floor f.low begun.fresh numbered f.fresh in
-        record {
-          leased = (p.fits).leased;
-          after = (p.fits).after;
-          base = (p.fits).low;
-          reached = (p.fits).high;
-          low = f.low;
-          viewed = p.viewed;
-          fresh = (begins.0, ap (λ (l : Line). l.batches) begins.1);
-          within = p.within;
-          stands = p.comes;
-          read = p.read;
-        }
-
-    fresh-numbered : (b : Begun) → Come w.stored valid.line o reader P (WasLatest o) b → AreNumberedFrom b.floor b.fresh
-    fresh-numbered b c =
-        let low = c.low in
-        let within = c.within in
-        let k = b.floor - w.stored.floor in
-        let above : batches_above b.floor w.stored.batches ≡ drop k w.stored.batches = above-drop w.stored.floor b.floor k w.stored.batches valid.line (omega (arith, low)) in
-        let all : AreNumberedFrom b.floor (drop k w.stored.batches) =
-        subst (λ n. AreNumberedFrom n (drop k w.stored.batches)) (let e : w.stored.floor + k ≡ b.floor = omega (arith, low) in e)
-        (numbered-drop w.stored.floor k w.stored.batches valid.line (omega (arith, low, within))) in
-        numbered-front b.floor b.fresh (c.fresh).0 (subst (AreNumberedFrom b.floor) (sym above ∙ (c.fresh).1) all)
-
-    come-stands : (b : Begun) → Come w.stored valid.line o reader P (WasLatest o) b → IsStagedNext reader b b.stage → HasPlan b b.stage → (reader.skips ≡ true → IsBareAt reader b b.stage) → (b.stage ≡ ReadsLatest → b ≡ begun_at b.moment b.overtaken b.history kept) → FollowsLine o w.stored kept b → Advances reader number-is b → Lasts o kept b → PollStands o w reader b
-    come-stands b c staged planned bare anew follows advances lasts = record {
-      reader_stands = s;
-      keeps = keeps;
-      follows = follows;
-      fits = record { leased = c.leased; after = c.after; low = c.base; high = c.reached };
-      viewed = c.viewed;
-      within = c.within;
-      comes = c.stands;
-      read = c.read;
-      staged = staged-as b.stage staged planned;
-      bare = bare;
-      anew = anew;
-      numbered = fresh-numbered b c;
-      risen = advances.risen;
-      above = advances.above;
-      tabled = advances.tabled;
-      lasts = lasts;
-    }
-      where
-        staged-as : (stage : Stage) → IsStagedNext reader b stage → HasPlan b stage → IsStaged reader b stage
-        staged-as (Puts next given replaces) staged planned = planned
-        staged-as AsksLast staged planned = staged
-        staged-as (LooksAt id last) staged planned = staged
-        staged-as (ReadsLog last) staged planned = staged
-        staged-as ReadsAgain staged planned = staged
-        staged-as ReadsLatest staged planned = tt
-        staged-as Ended staged planned = tt
+use Rattle.slate_live.proofs.BesideWorld.{begun-comes, come-stands, latest-decided, latest-read, number-is, number-low, poll-comes, view-reached, ways, whole-is}
 
 -- ---- what a call finds, and leads to
 gap-rises : (from last : ℕ) (bs : List Batch) → HaveGap from last bs → from ≤ last
@@ -880,7 +685,7 @@ module _ (live : Live) (store store' : Known (List Batch)) (w : World) (o o' : O
   steps-after m reader' begun' (Ok (Some (answers.Truncated at))) steps = arrives-then m steps.0 reader' (meets-came m begun.stage (Breaks steps.0) refl steps.1) (meets-advances m begun.stage (Breaks steps.0) refl steps.1) steps.2
   steps-after m reader' begun' (Err e) steps = reader-then m
 
-  step-stands : (reader' : Follower) (begun' : Begun) (result : Result (Option PollAnswer) SlateError) → Steps kept_one begun result o reader' begun' o' →
+  pub step-stands : (reader' : Follower) (begun' : Begun) (result : Result (Option PollAnswer) SlateError) → Steps kept_one begun result o reader' begun' o' →
       (w' : World) × RepresentsObjects live store' w' × (w'.stored ≡ w.stored) × (w'.objects ≡ w.objects) × StandsAfter o' w' reader result reader' begun'
   step-stands reader' begun' result steps =
       let m = steps-maintain reader' begun' result steps in
@@ -922,135 +727,3 @@ module _ (live : Live) (store : Known (List Batch)) (w : World) (o : Objects) (r
     where
       own-of : AreOf (kept_follower reader).line.batches w.stored
       own-of = are-above reader.view.manifest.last_l0_seq reader.line.batches w.stored (are-grown reader.line.batches reader.line w.stored s.valid.0 (All-contains_itself reader.line.batches))
-
--- ---- what others do
-module _ (settings : Settings) (w w' : World) (command : Command) (reply : Reply) (reached : IsReached w) (reached' : IsReached w') (next : NextWhole settings w command reply w') (o o' : Objects) (sound_before : IsSound o) (holds : Holds o w) (holds' : Holds o' w') (sound' : IsSound o') where
-  -- a manifest that was the latest one still was
-  was-then : (last : VersionedManifest) → WasLatest o last → WasLatest o' last
-  was-then last (latest, is, low, same) =
-      let at = sym (ap latest_manifest holds.catalogue) ∙ is in
-      let c = latest-after settings w w' command reply reached reached' next (λ manifest. Unit {0}) latest at (nothing-spared w latest command) in
-      let is' : latest_manifest o' ≡ Some c.latest = ap latest_manifest holds'.catalogue ∙ c.is in
-      let up = c.up in (
-        c.latest,
-        is',
-        omega (arith, low, up),
-        λ ids. same (omega (arith, low, up, ids)) ∙ latest-same latest c.latest at (omega (arith, low, up, ids)) is',
-      )
-    where
-      latest-same : (latest latest' : VersionedManifest) → latest_manifest w.catalogue ≡ Some latest → latest.id ≡ latest'.id → latest_manifest o' ≡ Some latest' → latest ≡ latest'
-      latest-same latest latest' at ids is' =
-          let there : entry_at latest'.id o'.manifests ≡ Some latest'.manifest = latest-entry o' latest' sound' is' in
-          let here : entry_at latest.id w'.catalogue.manifests ≡ Some latest'.manifest = ap (λ (x : Catalogue). entry_at latest.id x.manifests) (sym holds'.catalogue) ∙ (ap (λ n. entry_at n o'.manifests) ids ∙ there) in
-          let o_latest : latest_manifest o ≡ Some latest = ap latest_manifest holds.catalogue ∙ at in
-          let before : entry_at latest.id w.catalogue.manifests ≡ Some latest.manifest = ap (λ (x : Catalogue). entry_at latest.id x.manifests) (sym holds.catalogue) ∙ latest-entry o latest sound_before o_latest in
-          elim (entry-after settings w w' command reply reached reached' next (λ manifest. Unit {0}) latest at (nothing-spared w latest command) latest.id (omega arith)) [
-            | inl gone ↦ absurd (cc (gone, here))
-            | inr kept ↦
-                let manifests : latest.manifest ≡ latest'.manifest = (cc (kept, here, before)) in
-                ap (λ m. record { id = latest.id; manifest = m }) manifests ∙ ap (λ n. record { id = n; manifest = latest'.manifest }) ids
-          ]
-
-  module _ (begun_beside : (f : Follower) → StandsBeside o w f → StandsBeside o' w' f) (logs : LogsAre (OfLine w'.stored) o o') (act : OthersAct o o') (reader : Follower) (begun : Begun) (p : PollStands o w reader begun) where
-    line-grows : IsPrefix w.stored w'.stored
-    line-grows = grows settings w command reply w' next
-
-    floor-same : {n : ℕ} → w.stored.floor ≤ n → w'.stored.floor ≤ n
-    floor-same {n} low = subst (λ (l : Line). l.floor ≤ n) (sym line-grows.1) low
-
-    end-grows : end w.stored ≤ end w'.stored
-    end-grows = prefix-end w.stored w'.stored line-grows
-
-    placed-then : (view : VersionedManifest) (n mark : ℕ) (lease : Option Lease) → n ≤ end w.stored → StandsBeside o w (placed w.stored reader view n mark lease) → StandsBeside o' w' (placed w'.stored reader view n mark lease)
-    placed-then view n mark lease within s =
-        let then_stands = begun_beside (placed w.stored reader view n mark lease) s in
-        subst (λ (l : Line). StandsBeside o' w' (record reader { view = view; line = l; segments = []; mark = mark; lease = lease })) (sym (front-grown n w.stored w'.stored line-grows within)) then_stands
-
-    pub poll-then : PollStands o' w' reader begun
-    poll-then = record {
-      reader_stands = begun_beside reader p.reader_stands;
-      keeps = p.keeps;
-      follows = others-keep o o' w.stored w'.stored (kept_follower reader) begun line-grows logs p.follows;
-      fits = p.fits;
-      viewed = floor-same p.viewed;
-      within = (let low = p.within in let up = end-grows in omega (arith, low, up));
-      comes = placed-then (view_of reader begun) (reached_number begun) begun.mark begun.lease p.within p.comes;
-      read = λ last at.
-          let read = p.read last at in
-          let high = read.2 in
-          let up = end-grows in
-          (was-then last read.0, floor-same read.1, omega (arith, high, up), placed-then last last.manifest.last_l0_seq last.manifest.replay_after_wal_id begun.lease read.2 read.3);
-      staged = p.staged;
-      bare = p.bare;
-      anew = p.anew;
-      numbered = p.numbered;
-      risen = p.risen;
-      above = p.above;
-      tabled = p.tabled;
-      lasts = others-last o o' (kept_follower reader) begun act p.lasts;
-    }
-
--- a poll of a reader that reaches a number still does after what others did
-pub reaches-on : (target : ℕ) (w w' : World) (o o' : Objects) (l next : VersionedManifest) → latest_manifest o ≡ Some l → latest_manifest o' ≡ Some next → Holds o w → Holds o' w' → IsPrefix w.stored w'.stored → l.manifest.last_l0_seq ≤ next.manifest.last_l0_seq → (next.manifest.last_l0_seq ≡ l.manifest.last_l0_seq) ⊎ (end w.stored ≤ next.manifest.last_l0_seq) →
-    LogsFollow o o' l.manifest.replay_after_wal_id next.manifest.replay_after_wal_id → LogsGo (last_log l.manifest.replay_after_wal_id o) o o' → LogsAre (PastLine w.stored) o o' → (reader : Follower) (begun : Begun) → ReachesTo target o w reader begun → ReachesTo target o' w' reader begun
-reaches-on target w w' o o' l next is is' holds holds' grows tabled leaps follows goes news reader begun r = record {
-  stored = (let low = r.stored in let up = prefix-end w.stored w'.stored grows in omega (arith, low, up));
-  tabled = λ skips found at.
-      let low = r.tabled skips l (sym (ap latest_manifest holds.catalogue) ∙ is) in
-      let same = ap (λ (v : VersionedManifest). v.manifest.last_l0_seq) (some-same next found (sym is' ∙ (ap latest_manifest holds'.catalogue ∙ at))) in
-      omega (arith, low, tabled, same);
-  apart = λ reads found at.
-      let same = ap (λ (v : VersionedManifest). v.manifest.last_l0_seq) (some-same next found (sym is' ∙ (ap latest_manifest holds'.catalogue ∙ at))) in
-      elim leaps [
-        | inl kept ↦ elim (r.apart reads l (sym (ap latest_manifest holds.catalogue) ∙ is)) [
-          | inl low ↦ inl (omega (arith, low, kept, same))
-          | inr far ↦ inr (omega (arith, far, kept, same))
-        ]
-        | inr past ↦ inl (let high = r.stored in omega (arith, high, past, same))
-      ];
-  anew = λ m at. anew-then target o o' l next is is' follows goes (late-news target w.stored o o' r.stored news) reader.skips m (r.anew m at);
-  next = reaches-then target o o' l next is is' follows goes (late-news target w.stored o o' r.stored news) reader.lag begun begun.stage r.next;
-}
-
-pub reaches-beside : (settings : Settings) (live live' : Live) (store store' : Known (List Batch)) (w w' : World) (command : Command) (reply : Reply) → RepresentsObjects live store w → (next : NextWhole settings w command reply w') → RepresentsObjects live' store' w' → BesideThen store w store' w' →
-    (o o' : Objects) → store.objects ≡ Some o → store'.objects ≡ Some o' → (n : ℕ) (reader : Follower) (begun : Begun) → PollStands o w reader begun → IfSome begun.history.first (λ _. ReachesTo (w.owed n) o w reader begun) → IfSome begun.history.first (λ _. ReachesTo (w'.owed n) o' w' reader begun)
-reaches-beside settings live live' store store' w w' command reply r next r' beside o o' at at' n reader begun p reaches =
-    let h = all-held live store w o r at in
-    let h' = all-held live' store' w' o' r' at' in
-    let l = p.lasts.latest in
-    let go = (beside o o' reader at at').2 l.0 l.1 in
-    let f = go.1 in
-    if-some begun.history.first (λ _. ReachesTo (w.owed n) o w reader begun) (λ _. ReachesTo (w'.owed n) o' w' reader begun)
-    (λ _ r. subst (λ (owed : ℕ → ℕ). ReachesTo (owed n) o' w' reader begun) (sym next.owed) (reaches-on (w.owed n) w w' o o' l.0 go.0 l.1 f.latest_is h.1 h'.1 f.grows f.tabled f.leaps f.logs f.goes f.news reader begun r)) reaches
-
--- what others do leaves a begun poll standing
-pub polls-beside : (settings : Settings) (live live' : Live) (store store' : Known (List Batch)) (w w' : World) (command : Command) (reply : Reply) → RepresentsObjects live store w → NextWhole settings w command reply w' → RepresentsObjects live' store' w' → BesideThen store w store' w' →
-    (o o' : Objects) → store.objects ≡ Some o → store'.objects ≡ Some o' → (reader : Follower) (begun : Begun) → PollStands o w reader begun → PollStands o' w' reader begun
-polls-beside settings live live' store store' w w' command reply r next r' beside o o' at at' reader begun p =
-    let h = all-held live store w o r at in
-    let h' = all-held live' store' w' o' r' at' in
-    poll-then settings w w' command reply (reached live store w r) (reached live' store' w' r') next o o' h.0 h.1 h'.1 h'.0 (λ f. (beside o o' f at at').0) (beside o o' reader at at').1
-    (follows-acts o o' (beside o o' reader at at').2 (was-then settings w w' command reply (reached live store w r) (reached live' store' w' r') next o o' h.0 h.1 h'.1 h'.0)) reader begun p
-
-pub others_leave_them : OthersLeaveThem
-others_leave_them settings live live' store store' w command made reply r d =
-    let l = leads-beside settings live live' store store' w command made reply (left_polls command.action w.polls) (are-left command.action w.polls) r d in (
-      l.0,
-      l.1,
-      l.2,
-      λ o o' at at'. (
-        λ f s. (l.3 o o' f at at').0 s,
-        λ reader begun p. polls-beside settings live live' store store' w l.0 command reply r l.1 l.2 l.3 o o' at at' reader begun p,
-      ),
-    )
-
-pub readers_stand : ReadersStand
-readers_stand live store w o n reader r at there = reader-stands live store w o r at n reader there
-
-pub polls_begin : PollsBegin
-polls_begin live store w o reader moment r at s unpinned leased keeps = poll-begins live store w o r at reader moment s unpinned leased keeps
-
-pub steps_stand : StepsStand
-steps_stand live store store' w o o' reader reader' begun begun' result r at at' open_ unpinned p steps =
-    let h = all-held live store w o r at in
-    step-stands live store store' w o o' h.0 h.1 r.valid h.2 r at' reader open_ unpinned begun p reader' begun' result steps

@@ -2,6 +2,8 @@ pub mod Advancing
 pub mod Beginning
 pub mod Begun
 pub mod Beside
+pub mod BesideWorld
+pub mod OthersBeside
 pub mod Carrying
 pub mod Cases
 pub mod Chains
@@ -26,6 +28,7 @@ pub mod Holding
 pub mod Keeping
 pub mod Keyed
 pub mod Knowing
+pub mod KnownFollower
 pub mod Lasting
 pub mod Leading
 pub mod Leases

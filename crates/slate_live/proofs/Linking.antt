@@ -27,7 +27,7 @@ use Rattle.slate_live.proofs.Chains.{reached}
 use Rattle.slate_live.proofs.Confirming.{confirms}
 use Rattle.slate_live.proofs.Faulting.{answers-faults}
 use Rattle.slate_live.proofs.Growing.{grows}
-use Rattle.slate_live.proofs.Beside.{polls-beside, reaches-beside}
+use Rattle.slate_live.proofs.OthersBeside.{polls-beside, reaches-beside}
 use Rattle.slate_live.proofs.Representing.{leads-beside}
 use Rattle.slate_live.proofs.Rising.{rises}
 use Rattle.slate_live.proofs.Seeing.{sees}

@@ -47,7 +47,8 @@ use Rattle.slate_live.specs.Settings.{Settings, option_tasks}
 use Rattle.slate_live.specs.State.{Live, State, running}
 use Rattle.slate_live.specs.World.{NextWhole, World, grown_by, state_of, stored_after}
 use Rattle.slate_live.proofs.Following.{new-held, new-valid, owed-lined, seen-kept, seen-mark, view-stored, with_segments}
-use Rattle.slate_live.proofs.Knowing.{AfterOf, follower-after, follower-led, handle-after, handle-led}
+use Rattle.slate_live.proofs.Knowing.{AfterOf, follower-after, handle-after, handle-led}
+use Rattle.slate_live.proofs.KnownFollower.{follower-led}
 use Rattle.slate_model.proofs.Owing.{owed_line}
 use Rattle.slate_store.specs.declared.reader_modes.DbReaderMode.{DbReaderMode}
 use Rattle.slate_store.specs.declared.reader_modes.DbReaderMode.TheVariants as modes

@@ -66,13 +66,15 @@ use Rattle.slate_live.specs.Stepping.{MakesCall, StepsAt, StepsObject, StepsOf, 
 use Rattle.slate_live.specs.Valid.{AtObject, CanStep, IsAnswered, IsStepped, IsStoreFault, IsValidCommand, IsValidKind, Link}
 use Rattle.slate_live.specs.World.{World}
 use Rattle.slate_live.proofs.Begun.{begun-set, steps-is}
-use Rattle.slate_live.proofs.Beside.{IsLatestBut, IsOfStored, ends-stored, latest-high, put-tops, reader-stands, steps-after, steps-latest, steps-left, steps-maintain, steps-were, Aims, ends-number, ends-reach, goes-reaches, reaches-on}
+use Rattle.slate_live.proofs.Beside.{IsLatestBut, IsOfStored, ends-stored, put-tops, reader-stands, steps-after, steps-latest, steps-left, steps-maintain, steps-were, Aims, ends-number, ends-reach, goes-reaches}
+use Rattle.slate_live.proofs.OthersBeside.{reaches-on}
+use Rattle.slate_live.proofs.BesideWorld.{latest-high}
 use Rattle.slate_live.proofs.Cases.{is-none, if-some}
 use Rattle.slate_live.proofs.Changing.{followers-set, handles-set-follower}
 use Rattle.slate_live.proofs.Filling.{meets-fails, recorded-is, refused-is}
 use Rattle.slate_live.proofs.Going.{meets-goes}
 use Rattle.slate_live.proofs.Keyed.{bare-lacks, stored-lacks, turn-has}
-use Rattle.slate_live.proofs.Knowing.{unchanged-objects}
+use Rattle.slate_live.proofs.KnownFollower.{unchanged-objects}
 use Rattle.slate_live.proofs.Leading.{Leads}
 use Rattle.slate_live.proofs.Maintaining.{maintained-leads}
 use Rattle.slate_live.proofs.Onward.{beside-onward, onward-maintained}

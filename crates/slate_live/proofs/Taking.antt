@@ -32,7 +32,8 @@ use Rattle.slate_model.proofs.Planned.{puts-known, take-maintains, take-recheckp
 use Rattle.slate_model.proofs.Reduced.{as_modelled, catalogued, followed-err, followed-ok, holding, modelled, some-same, untouched-known}
 use Rattle.slate_live.specs.Represents.{IsValidFollower}
 use Rattle.slate_live.proofs.Cases.{by-option, is-none, some-of}
-use Rattle.slate_live.proofs.Knowing.{AfterOf, objects-same, unchanged-objects}
+use Rattle.slate_live.proofs.Knowing.{AfterOf, objects-same}
+use Rattle.slate_live.proofs.KnownFollower.{unchanged-objects}
 use Rattle.slate_live.proofs.Leasing.{leased-held, leased-kept, leased-segments, leased-stored, leased-valid, leased_whole, taken-answers, taken-kept, taken-lined, taken-sees, taken_line}
 
 -- a plan that takes a lease is of a database that is initialised

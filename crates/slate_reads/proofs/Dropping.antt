@@ -1,11 +1,11 @@
 -- Batches still rise as one is added, and an index stays one as the first is dropped.
-use Rattle.std.proofs.Common.{◌≡◌, ltb, inl, inr, ◌⊎◌, refl, sym, ◌∙◌, ap, subst, ℕ, ◌+◌, ◌-◌, ◌<◌, ◌≤◌, suc, zero, Bool, true, false, cond, List, [], ◌∷◌, ◌++◌, length, get_or, drop, take_while, leb, add-one, add_comm, filter, map, replicate, reverse, Option, Some, None, IfSome, arith, length-append}
+use Rattle.std.proofs.Common.{◌≡◌, ltb, inl, inr, ◌⊎◌, refl, sym, ◌∙◌, ap, subst, ℕ, ◌+◌, ◌-◌, ◌<◌, ◌≤◌, suc, zero, Bool, true, false, cond, List, [], ◌∷◌, ◌++◌, length, get_or, take, drop, drop-cons, append_assoc, take_while, leb, add-one, add_comm, filter, map, replicate, reverse, Option, Some, None, IfSome, arith, length-append}
 use Rattle.std.specs.List.{AllByRecursion, flat_map, prefix_len}
 use Rattle.std.proofs.lemmas.List.Folds.{length-prefix_len}
 use Rattle.std.specs.Str.{bytes_eq}
 use Rattle.std.proofs.lemmas.Bool.{cases_lt, lt-ltb, le-ltb, leb-true, leb-false}
 use borrow.Author.Tests.{ltb-true}
-use Rattle.std.proofs.lemmas.List.{nil_from_length, reverse-append, get_or_append_left, get_or-map, get_or-drop, get_or-replicate, get_or-append_right, length-map, length-drop, length-replicate, drop-map, drop_at}
+use Rattle.std.proofs.lemmas.List.{take-append-drop, nil_from_length, reverse-append, get_or_append_left, get_or-map, get_or-drop, get_or-replicate, get_or-append_right, length-map, length-drop, length-replicate, drop-map, drop_at}
 use Rattle.slate_types.specs.declared.batches.Batch.{Batch}
 use Rattle.slate_types.specs.declared.batches.KeyOp.{KeyOp}
 use Rattle.slate_types.specs.Line.{batches_above}
@@ -43,6 +43,15 @@ pub rising-last : (batches : List Batch) (b : Batch) (more : List Batch) → Are
 rising-last [] b more rising = tt
 rising-last (x ∷ []) b more rising = rising.0.0
 rising-last (x ∷ y ∷ batches) b more rising = rising-last (y ∷ batches) b more rising.1
+
+-- where a batch isn't above the last of those before it, they don't rise
+pub rising-next : (xs bs : List Batch) (i : ℕ) (b d : Batch) → i < length bs → b ≡ get_or bs i d → AreRising (xs ++ bs) → IsAboveLast b.number (xs ++ take i bs)
+rising-next xs bs i b d less is rising =
+    let parts : bs ≡ take i bs ++ (b ∷ drop (suc i) bs) =
+    sym (take-append-drop i bs) ∙ ap (λ ys. take i bs ++ ys) (drop-cons bs i d less ∙ ap (λ x. x ∷ drop (suc i) bs) (sym is)) in
+    let all : xs ++ bs ≡ (xs ++ take i bs) ++ (b ∷ drop (suc i) bs) =
+    ap (λ ys. xs ++ ys) parts ∙ sym (append_assoc xs (take i bs) (b ∷ drop (suc i) bs)) in
+    rising-last (xs ++ take i bs) b (drop (suc i) bs) (subst AreRising all rising)
 
 -- the batches above a number, once the first is above it
 pub above-kept : (number : ℕ) (batches : List Batch) → AreRising batches → begins_through number batches ≡ false → batches_above number batches ≡ batches

@@ -1,5 +1,5 @@
 // Tables whose copies share their batches and indexes.
-ghost use Rattle.std.specs.Prelude.{◌≡◌, ◌≤◌, ◌++◌, [], ◌∷◌, length, nat_le, take_while, IfOk, IfErr, OnOk};
+ghost use Rattle.std.specs.Prelude.{◌≡◌, ◌≤◌, ◌++◌, [], ◌∷◌, false, length, nat_le, take_while, true, IfOk, IfErr, OnOk};
 ghost use Rattle.slate_types.specs.Line.{batches_above};
 ghost use Rattle.slate_reads.specs.Index.{AreRising, IsAboveLast};
 
@@ -52,11 +52,7 @@ impl Table {
         ensures { IfOk result (λ table. table ≡ batches.now) }
     {
         let mut table = IndexedTable::new(alloc);
-        for batch in batches {
-            if table.push(batch.clone()?).is_err() {
-                return Err(NoMemory);
-            }
-        }
+        table.push_all(batches)?;
         Table::new(alloc, table).map_err(|_table| NoMemory)
     }
 
@@ -105,6 +101,25 @@ impl Table {
             *self = own;
         }
         self.push_alone(batch)
+    }
+
+    /// Adds copies of batches, whose numbers go on rising, where there is no other copy of the table, and says whether it
+    /// did. Where there is one, or memory runs out, nothing is changed. It takes the time of as many pushes to an
+    /// `IndexedTable`, and copies no keys and no values.
+    pub fn append_alone(&mut self, batches: &[Batch]) -> bool
+        requires { AreRising (self.old ++ batches.now) }
+        ensures done { result ≡ true → self.new ≡ self.old ++ batches.now }
+        ensures left { result ≡ false → self.new ≡ self.old }
+    {
+        let Some(table) = Arc::get_mut(&mut self.shared) else {
+            return false;
+        };
+        let count = table.batches().len();
+        if table.push_all(batches).is_err() {
+            table.truncate(count);
+            return false;
+        }
+        true
     }
 
     /// Adds a batch, where there is no other copy.

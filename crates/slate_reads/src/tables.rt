@@ -1,5 +1,5 @@
 // Tables in memory: adding batches, dropping the first ones, and keeping the indexes.
-ghost use Rattle.std.specs.Prelude.{◌↔◌, IsTrue, ◌≡◌, ◌+◌, ◌-◌, ◌<◌, ◌≤◌, ◌^◌, ◌++◌, [], ◌∷◌, ℕ, All, IsSome, List, OnOk, IfErr, IfSome, Some, None, drop, take, if◌then◌else◌, length, map, min, true};
+ghost use Rattle.std.specs.Prelude.{◌↔◌, IsTrue, ◌≡◌, ◌+◌, ◌-◌, ◌<◌, ◌≤◌, ◌^◌, ◌++◌, [], ◌∷◌, ℕ, All, IsSome, List, OnErr, OnOk, IfErr, IfSome, Some, None, drop, take, if◌then◌else◌, length, map, min, true};
 ghost use Rattle.std.specs.Str.{bytes_eq};
 ghost use Rattle.std.specs.HashMap.{get};
 ghost use Rattle.std.specs.BTreeSet.{contains};
@@ -12,7 +12,7 @@ ghost use Rattle.slate_reads.specs.Size.{ops_size, size_of, value_size};
 
 use crate::windows::Window;
 use bytes::Bytes;
-use slate_types::{Batch, KeyOp, Op, Seq};
+use slate_types::{Batch, KeyOp, NoMemory, Op, Seq};
 use std::alloc::{AllocError, Global};
 use std::collections::{BTreeSet, HashMap};
 use std::marker::Model;
@@ -107,6 +107,21 @@ impl IndexedTable {
         add_entries(&mut self.entries, &mut self.latest, place, &batch);
         self.batches.push_reserved(batch);
         self.size = size;
+        Ok(())
+    }
+
+    /// Adds copies of batches, whose numbers go on rising, as `push` does each. For want of memory the first of them may be
+    /// added, and others not. It copies no keys and no values.
+    pub fn push_all(&mut self, batches: &[Batch]) -> Result<(), NoMemory>
+        requires { AreRising (self.old ++ batches.now) }
+        ensures ok { OnOk result (self.new ≡ self.old ++ batches.now) }
+        ensures err { OnErr result (take (length self.old) self.new ≡ self.old) }
+    {
+        for batch in batches {
+            if self.push(batch.clone()?).is_err() {
+                return Err(NoMemory);
+            }
+        }
         Ok(())
     }
 

@@ -1,5 +1,5 @@
 -- Joining tables: batches that rise, and the two puts.
-use Rattle.std.proofs.Common.{◌≡◌, ◌≢◌, inl, inr, ℕ, zero, suc, ◌+◌, ◌<◌, ◌≤◌, List, [], ◌∷◌, ◌++◌, take, drop, drop-cons, get_or, length, Option, Some, None, unwrap_or, Result, Ok, Err, refl, sym, ap, subst, ◌∙◌, arith, append_assoc}
+use Rattle.std.proofs.Common.{◌≡◌, ◌≢◌, inl, inr, ℕ, zero, ◌+◌, ◌<◌, ◌≤◌, List, [], ◌∷◌, ◌++◌, take, drop, get_or, length, Option, Some, None, unwrap_or, Result, Ok, Err, refl, sym, ap, subst, ◌∙◌, arith}
 use Rattle.std.proofs.lemmas.List.{append-nil, take-append-drop, take_more}
 use Rattle.std.proofs.lemmas.Grind.{flat_map-append}
 use Rattle.std.proofs.lemmas.List.Elements.{All-append, All-cons, All-nil, Contains-get_or}
@@ -10,8 +10,7 @@ use Rattle.slate_types.specs.declared.store_errors.StoreError.{StoreError}
 use Rattle.slate_types.specs.declared.store_errors.StoreError.TheVariants as errors
 use Rattle.slate_types.specs.Modelled.{WhereModelled}
 use Rattle.slate_types.proofs.Modelled.{modelled_as, modelled_then}
-use Rattle.slate_reads.specs.Index.{AreRising, IsAboveLast}
-use Rattle.slate_reads.proofs.Dropping.{rising-last}
+use Rattle.slate_reads.specs.Index.{AreRising}
 use Rattle.slate_store.specs.declared.refusals.StoreRefusal.{StoreRefusal}
 use Rattle.slate_store.specs.declared.refusals.StoreRefusal.TheVariants.{InvalidDBState, NoMemory}
 use Rattle.slate_store.specs.Calls.{Finds, Puts}
@@ -22,15 +21,6 @@ use Rattle.slate_store.specs.declared.objects.VersionedManifest.{VersionedManife
 use Rattle.slate_store.specs.Objects.{Change, Objects, changed, is_present, table_at}
 use Rattle.slate_store.specs.Refusals.{FindsLatest, refusal_of}
 use Rattle.slate_store.specs.Steps.{Adds, Joins, PutsBoth}
-
--- where a batch isn't above the last of those before it, they don't rise
-pub rising-next : (xs bs : List Batch) (i : ℕ) (b d : Batch) → i < length bs → b ≡ get_or bs i d → AreRising (xs ++ bs) → IsAboveLast b.number (xs ++ take i bs)
-rising-next xs bs i b d less is rising =
-    let parts : bs ≡ take i bs ++ (b ∷ drop (suc i) bs) =
-    sym (take-append-drop i bs) ∙ ap (λ ys. take i bs ++ ys) (drop-cons bs i d less ∙ ap (λ x. x ∷ drop (suc i) bs) (sym is)) in
-    let all : xs ++ bs ≡ (xs ++ take i bs) ++ (b ∷ drop (suc i) bs) =
-    ap (λ ys. xs ++ ys) parts ∙ sym (append_assoc xs (take i bs) (b ∷ drop (suc i) bs)) in
-    rising-last (xs ++ take i bs) b (drop (suc i) bs) (subst AreRising all rising)
 
 -- a put of the table that was refused
 table-refused : (table manifest : Change) (e : StoreError) (o o' : Objects) → Puts table (Err e) o o' → (made : ℕ) × PutsBoth table manifest (Err (refusal_of e)) made o o'

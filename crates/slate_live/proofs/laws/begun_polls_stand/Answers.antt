@@ -1,4 +1,4 @@
-use Rattle.slate_live.proofs.Beside.{others_leave_them, polls_begin, readers_stand, steps_stand}
+use Rattle.slate_live.proofs.OthersBeside.{others_leave_them, polls_begin, readers_stand, steps_stand}
 use Rattle.slate_live.proofs.laws.begun_polls_stand.Goals as goal
 
 pub returns : goal.returns

@@ -1,5 +1,5 @@
 use Rattle.std.proofs.Common.{rules, arith}
-use Rattle.slate_store.proofs.Joining.{rising-next}
+use Rattle.slate_reads.proofs.Dropping.{rising-next}
 use Rattle.slate_store.proofs.compactions.add_copies.Goals as goal
 
 pub returns-then-not-is_above_last : goal.returns-then-not-is_above_last

@@ -10,7 +10,7 @@ use Rattle.slate_types.specs.declared.batches.Batch.{Batch}
 use Rattle.slate_types.specs.declared.store_errors.StoreError.{StoreError}
 use Rattle.slate_types.specs.declared.store_errors.StoreError.TheVariants.{NotFound, Exists, Failed, NoMemory}
 use Rattle.slate_objects.specs.Objects.{log_in, manifest_in, table_in}
-use Rattle.slate_objects.specs.Reading.{Gives}
+use Rattle.slate_objects.specs.Reading.{GivesDecoded}
 use Rattle.slate_objects.specs.declared.faults.DecodeError.{DecodeError}
 use Rattle.slate_objects.specs.declared.faults.DecodeError.TheVariants as errors
 use Rattle.slate_objects.specs.declared.faults.DecodeFault.{DecodeFault}
@@ -91,7 +91,7 @@ module _ {K X : Type 0} (cmp : K → K → Ordering) (held : List ℕ → X) (id
   found-error NoMemory none = tt
 
   -- what is answered of a decoding is the object, or refused
-  pub found-answer : (other : X) (read : List ℕ → Result X DecodeFault) (bytes : List ℕ) (decoded : Result X DecodeError) → ((bytes : List ℕ) → held bytes ≡ value_or other (read bytes)) → value_at cmp id blobs ≡ Some bytes → Gives decoded (read bytes) → Finds (value_at cmp id (each held blobs)) (answer_of decoded)
+  pub found-answer : (other : X) (read : List ℕ → Result X DecodeFault) (bytes : List ℕ) (decoded : Result X DecodeError) → ((bytes : List ℕ) → held bytes ≡ value_or other (read bytes)) → value_at cmp id blobs ≡ Some bytes → GivesDecoded decoded (read bytes) → Finds (value_at cmp id (each held blobs)) (answer_of decoded)
   found-answer other read bytes (Ok x) holds is gives = found-object bytes x is (holds bytes ∙ held-decoded other x (read bytes) gives)
   found-answer other read bytes (Err (errors.Fault fault)) holds is gives = tt
   found-answer other read bytes (Err errors.NoMemory) holds is gives = tt

@@ -16,7 +16,7 @@ use Rattle.std.proofs.lemmas.Option.{slice_get-map}
 use Rattle.std.proofs.lemmas.Map.Entries.{lookup_from_place}
 use Rattle.std.proofs.lemmas.Map.Keys.{IsDistinct-from_sorted}
 use Rattle.slate_types.specs.declared.store_errors.StoreError.{StoreError}
-use Rattle.slate_objects.specs.Reading.{Gives}
+use Rattle.slate_objects.specs.Reading.{GivesDecoded}
 use Rattle.slate_objects.specs.declared.faults.DecodeError.{DecodeError}
 use Rattle.slate_objects.specs.declared.faults.DecodeError.TheVariants as errors
 use Rattle.slate_objects.specs.declared.faults.DecodeFault.{DecodeFault}
@@ -40,7 +40,7 @@ pub refused : {K X : Type 0} (cmp : K → K → Ordering) (held : List ℕ → X
 refused cmp held id blobs result error is finds = subst (λ r. Finds (value_at cmp id (each held blobs)) r) (sym is) (found-error cmp held id blobs error finds)
 
 -- what was answered of a decoding was decoded
-pub decoded-ok : {X : Type 0} (decoded : Result X DecodeError) (read : Result X DecodeFault) (x : X) → Ok x ≡ answer_of decoded → Gives decoded read → read ≡ Ok x
+pub decoded-ok : {X : Type 0} (decoded : Result X DecodeError) (read : Result X DecodeFault) (x : X) → Ok x ≡ answer_of decoded → GivesDecoded decoded read → read ≡ Ok x
 decoded-ok (Ok y) read x is gives = let same : y ≡ x = cc in gives ∙ ap Ok same
 decoded-ok (Err (errors.Fault fault)) read x is gives = absurd (cc)
 decoded-ok (Err errors.NoMemory) read x is gives = absurd (cc)
@@ -84,7 +84,7 @@ module _ (ms ls : Option (List (ℕ × List ℕ))) (ts : Option (List (TableId �
       refused nat_cmp manifest_held id m result error is (known (λ blobs. Finds {A = List ℕ} (value_at nat_cmp id blobs) (Err error)) ms m m-is finds))
 
   -- one that was got is read as what was decoded
-  pub manifest-answer : (id : ℕ) (bytes : List ℕ) (decoded : Result Manifest DecodeError) (result : Result Manifest StoreError) → result ≡ answer_of decoded → IfSome ms (λ blobs. value_at nat_cmp id blobs ≡ Some bytes) → Gives decoded (manifest_in bytes) → IfSome (all_held ms ls ts) (λ o. Finds (entry_at id o.manifests) result)
+  pub manifest-answer : (id : ℕ) (bytes : List ℕ) (decoded : Result Manifest DecodeError) (result : Result Manifest StoreError) → result ≡ answer_of decoded → IfSome ms (λ blobs. value_at nat_cmp id blobs ≡ Some bytes) → GivesDecoded decoded (manifest_in bytes) → IfSome (all_held ms ls ts) (λ o. Finds (entry_at id o.manifests) result)
   manifest-answer id bytes decoded result is got gives = where-held (λ o. Finds (entry_at id o.manifests) result) ms ls ts (λ m l t m-is l-is t-is.
       subst (λ (answer : Result Manifest StoreError). Finds (entry_at id (each manifest_held m)) answer) (sym is)
       (found-answer nat_cmp manifest_held id m blank_manifest manifest_in bytes decoded (λ bs. refl) (known (λ blobs. value_at nat_cmp id blobs ≡ Some bytes) ms m m-is got) gives))

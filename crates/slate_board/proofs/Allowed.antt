@@ -11,13 +11,13 @@ use Rattle.slate_board.specs.Views.{IsAtMost, first_code}
 use Rattle.slate_board.specs.Words.{numbers_of, with_word}
 use Rattle.slate_board.specs.Rule.{Standing, IsRuled, IsRuledState}
 use Rattle.slate_board.specs.Steps.{view_with, follower_of, union_of, spent_view, Writes, IsStep, loads, ticks, advances, closes, splits, joins}
-use Rattle.slate_board.specs.Shows.{Shows, Looks, Raises, Exchanges}
+use Rattle.slate_board.specs.Shows.{ShowsWord, Looks, Raises, Exchanges}
 use Rattle.slate_board.proofs.Numbers.{IsAtMost-with_word, with_word-forward, with_word-same, numbers_of-set, code_within}
 use Rattle.slate_board.proofs.Stepping.{step_kept}
 
 shown : (before : Standing) (place word id : ℕ) (v : SeatView) → place < 3 → IsRuled before → get_elem? before.views id ≡ some v
     → IsAtMost (numbers_of before.words) (with_word place word (numbers_of before.words)) → (with_word place word (numbers_of before.words)).close ≤ 3
-    → Shows place (slice_index before.words place) word v (view_with place word v)
+    → ShowsWord place (slice_index before.words place) word v (view_with place word v)
 shown before place word id v low kept at forward code =
     let now : BoardView = numbers_of before.words in
     let below : IsAtMost v.seen now = kept.none_ahead id v at in
@@ -34,7 +34,7 @@ abbrev IsStepBy : ℕ → (ℕ → ℕ) → ℕ → SeatView → Type 0
 IsStepBy place f id v = (before after : Standing) → Writes place (f (slice_index before.words place)) id v before after → IsStep before after
 
 pub allowed : (slots id place : ℕ) (me : Me (Unit {0}) SeatView) (f : ℕ → ℕ) → place < 3 → IsStepBy place f id me.0
-    → Allows IsRuledState slots id me place f (λ found after. Shows place found (f found) me.0 after.0 × (after.1 ≡ me.1))
+    → Allows IsRuledState slots id me place f (λ found after. ShowsWord place found (f found) me.0 after.0 × (after.1 ≡ me.1))
 allowed slots id place me f low is_step state kept _ at _ =
     let before : Standing = record { words = state.words; views = state.views } in
     let word : ℕ = f (slice_index state.words place) in

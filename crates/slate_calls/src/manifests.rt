@@ -1,6 +1,6 @@
 // Manifests and prefixes of segments, as calls spell them.
 ghost use Rattle.std.specs.Prelude.{IfSome};
-ghost use Rattle.slate_status.specs.Segments.{AreRising};
+ghost use Rattle.slate_status.specs.Segments.{PrefixesRise};
 
 use crate::answers::Answer;
 use crate::call_line::CallLine;
@@ -24,7 +24,7 @@ pub fn prefixes_of(line: &mut CallLine<'_>) -> Vec<Bytes> {
 
 /// The same, rising, each once.
 pub fn rising(line: &mut CallLine<'_>) -> Option<Seq<Bytes>>
-    ensures { IfSome result AreRising }
+    ensures { IfSome result PrefixesRise }
 {
     let prefixes = prefixes_of(line);
     match union(line.alloc(), prefixes.as_slice(), &[]) {

@@ -14,7 +14,7 @@ use Rattle.slate_store.specs.declared.objects.Checkpoint.{Checkpoint}
 use Rattle.slate_store.specs.declared.objects.Manifest.{Manifest}
 use Rattle.slate_store.specs.declared.objects.VersionedManifest.{VersionedManifest}
 use Rattle.slate_store.specs.Checkpoints.{checkpoint_id}
-use Rattle.slate_store.specs.Content.{AreRising, HasItsLogs, HasItsObjects, IsPinned, IsSound, content, content_by, pinned_content, table_batches}
+use Rattle.slate_store.specs.Content.{IdsRise, HasItsLogs, HasItsObjects, IsPinned, IsSound, content, content_by, pinned_content, table_batches}
 use Rattle.slate_store.specs.Objects.{Objects, entry_at, greatest, last, latest_manifest}
 use Rattle.slate_store.proofs.Entries.{absent, greater}
 use Rattle.slate_store.proofs.Gapless.{between-gapless, gapless-greatest, stored-gapless}
@@ -26,14 +26,14 @@ use Rattle.slate_check.specs.declared.faults.ManifestFault.TheVariants.{TableMis
 use Rattle.slate_check.specs.declared.faults.Soundness.TheVariants.{Sound, Unsound}
 use Rattle.slate_check.specs.declared.faults.SoundnessFault.{SoundnessFault}
 use Rattle.slate_check.specs.declared.faults.SoundnessFault.TheVariants as of_store
-use Rattle.slate_check.specs.Faults.{HasAll, IsJudged, LacksBy, Says, Shows, UnpinnedBy, clauses, place}
+use Rattle.slate_check.specs.Faults.{HasAll, IsJudged, LacksBy, Says, ShowsFault, UnpinnedBy, clauses, place}
 use Rattle.slate_check.specs.Named.{EndAt, kept_ids, named_line}
 use Rattle.slate_check.specs.Steps.{AreLoaded, FailsToLoad, FitsIds, IsLoaded, IsOrdered, KeepsAll, KeepsNot, last_id}
 use Rattle.slate_check.proofs.Sound.{pinned, sound}
 use Rattle.slate_check.proofs.Unsound.{unsound}
 
 -- ---- which clauses hold so far
-pub judge : (o : Objects) (fault : SoundnessFault) → AllByRecursion (Says o) (take (place fault) clauses) → Shows o fault → IsJudged o (Unsound fault)
+pub judge : (o : Objects) (fault : SoundnessFault) → AllByRecursion (Says o) (take (place fault) clauses) → ShowsFault o fault → IsJudged o (Unsound fault)
 judge o fault earlier shown = (record { earlier = earlier; shown = shown }, unsound o fault shown)
 
 pub of_latest : (o : Objects) (latest : VersionedManifest) (P : VersionedManifest → Type 0) → latest_manifest o ≡ Some latest → P latest → IfSome (latest_manifest o) P
@@ -175,7 +175,7 @@ all-sound o latest fits all line differ pins =
     sound o latest fits.is fits.ordered.manifests fits.ordered.logs fits.ordered.tables fits.epochs fits.gapless all line differ pins
 
 -- ---- the manifest under its id
-last-entry : {X : Type 0} (e : ℕ × X) (es : List (ℕ × X)) → AreRising (map (λ e. e.0) es) → last es ≡ Some e → entry_at e.0 es ≡ Some e.1
+last-entry : {X : Type 0} (e : ℕ × X) (es : List (ℕ × X)) → IdsRise (map (λ e. e.0) es) → last es ≡ Some e → entry_at e.0 es ≡ Some e.1
 last-entry e [] rising is = absurd (cc)
 last-entry {X} e (x ∷ []) rising is =
     let same : x ≡ e = cc in
@@ -187,7 +187,7 @@ last-entry {X} e (x ∷ y ∷ es) rising is =
     let over : nat_cmp e.0 x.0 ≡ Greater = greater e.0 x.0 less in
     rw over (last-entry e (y ∷ es) rising.1 (sym (last-cons x y es) ∙ is))
 
-pub latest-entry : (o : Objects) (latest : VersionedManifest) → AreRising (map (λ e. e.0) o.manifests) → latest_manifest o ≡ Some latest → entry_at latest.id o.manifests ≡ Some latest.manifest
+pub latest-entry : (o : Objects) (latest : VersionedManifest) → IdsRise (map (λ e. e.0) o.manifests) → latest_manifest o ≡ Some latest → entry_at latest.id o.manifests ≡ Some latest.manifest
 latest-entry o latest rising is = last-entry (latest.id, latest.manifest) o.manifests rising (some-versioned (last o.manifests) latest is)
 
 -- ---- what a checkpoint's manifest names was read

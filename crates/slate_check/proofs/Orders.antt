@@ -8,7 +8,7 @@ use Rattle.std.specs.Ordering.{is_lt}
 use Rattle.std.specs.declared.cmp.Ordering.{Ordering}
 use Rattle.std.specs.declared.cmp.Ordering.TheVariants.{Less, Equal, Greater}
 use Rattle.slate_store.specs.declared.objects.TableId.{TableId}
-use Rattle.slate_store.specs.Content.{AreRising}
+use Rattle.slate_store.specs.Content.{IdsRise}
 use Rattle.slate_store.specs.Objects.{table_cmp}
 use Rattle.slate_store.proofs.Entries.{table_total}
 
@@ -16,24 +16,24 @@ each-above : (x y : ℕ) (ys : List ℕ) → x < y → AllByRecursion (λ z. y <
 each-above x y [] less all = tt
 each-above x y (z ∷ zs) less all = (let k : y < z = all.0 in omega (arith, k), each-above x y zs less all.1)
 
-rising-from : (x : ℕ) (xs : List ℕ) → ((k : ℕ) → suc k < length (x ∷ xs) → get_or (x ∷ xs) k 0 < get_or (x ∷ xs) (suc k) 0) → AreRising (x ∷ xs)
+rising-from : (x : ℕ) (xs : List ℕ) → ((k : ℕ) → suc k < length (x ∷ xs) → get_or (x ∷ xs) k 0 < get_or (x ∷ xs) (suc k) 0) → IdsRise (x ∷ xs)
 rising-from x [] adjacent = (tt, tt)
 rising-from x (y ∷ ys) adjacent =
     let rest = rising-from y ys (λ k less. adjacent (suc k) (omega arith)) in
     let first : x < y = adjacent zero (omega arith) in
     ((first, each-above x y ys first rest.0), rest)
 
-rising-all : (xs : List ℕ) → ((k : ℕ) → suc k < length xs → get_or xs k 0 < get_or xs (suc k) 0) → AreRising xs
+rising-all : (xs : List ℕ) → ((k : ℕ) → suc k < length xs → get_or xs k 0 < get_or xs (suc k) 0) → IdsRise xs
 rising-all [] adjacent = tt
 rising-all (x ∷ xs) adjacent = rising-from x xs adjacent
 
-rising-adjacent : (xs : List ℕ) (k : ℕ) → AreRising xs → suc k < length xs → get_or xs k 0 < get_or xs (suc k) 0
+rising-adjacent : (xs : List ℕ) (k : ℕ) → IdsRise xs → suc k < length xs → get_or xs k 0 < get_or xs (suc k) 0
 rising-adjacent [] k rising less = absurd (omega arith)
 rising-adjacent (x ∷ []) k rising less = absurd (omega arith)
 rising-adjacent (x ∷ y ∷ ys) zero rising less = (rising.0).0
 rising-adjacent (x ∷ y ∷ ys) (suc k) rising less = rising-adjacent (y ∷ ys) k rising.1 (omega arith)
 
-pub rising-answer : (xs : List ℕ) (r : Bool) → IsAllAdjacentAnswer (λ x y b. b ≡ ltb x y) xs r → (IsTrue r → AreRising xs) × (AreRising xs → IsTrue r)
+pub rising-answer : (xs : List ℕ) (r : Bool) → IsAllAdjacentAnswer (λ x y b. b ≡ ltb x y) xs r → (IsTrue r → IdsRise xs) × (IdsRise xs → IsTrue r)
 rising-answer xs true adjacent =
     (λ _. rising-all xs (λ k less. let one : k + 1 < length xs = omega arith in let l = rw add-one at (adjacent k 0 one) in ltb-true (get_or xs k 0) (get_or xs (suc k) 0) (sym l)), λ _. refl)
 rising-answer xs false adjacent = (

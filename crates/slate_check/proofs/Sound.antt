@@ -12,7 +12,7 @@ use Rattle.slate_store.specs.declared.objects.Manifest.{Manifest}
 use Rattle.slate_store.specs.declared.objects.TableId.{TableId}
 use Rattle.slate_store.specs.declared.objects.VersionedManifest.{VersionedManifest}
 use Rattle.slate_store.specs.Checkpoints.{checkpoint_id}
-use Rattle.slate_store.specs.Content.{AreGapless, AreRising, HasItsObjects, IsPinned, IsSound, StoresTable, content, content_by, pinned_content, table_batches}
+use Rattle.slate_store.specs.Content.{AreGapless, IdsRise, HasItsObjects, IsPinned, IsSound, StoresTable, content, content_by, pinned_content, table_batches}
 use Rattle.slate_store.specs.Objects.{Objects, entry_at, latest_manifest, table_at, table_cmp}
 use Rattle.slate_store.proofs.Entries.{same_table, tied}
 use Rattle.slate_check.specs.Faults.{HasAll, ids_above}
@@ -93,7 +93,7 @@ pinned o latest checkpoint manifest is id within kept all line begins =
 
 -- ---- objects are sound
 pub sound : (o : Objects) (latest : VersionedManifest) → latest_manifest o ≡ Some latest
-    → AreRising (map (λ e. e.0) o.manifests) → AreRising (map (λ log. log.0) o.logs) → IsStrictlySortedBy table_cmp (map (λ table. table.0) o.tables)
+    → IdsRise (map (λ e. e.0) o.manifests) → IdsRise (map (λ log. log.0) o.logs) → IsStrictlySortedBy table_cmp (map (λ table. table.0) o.tables)
     → All (λ table. table.0.epoch ≤ latest.manifest.writer_epoch) o.tables → AreGapless latest.manifest.replay_after_wal_id (ids_above o latest.manifest)
     → HasAll o latest.manifest → IsLine (content o) → IsDistinct eqb (kept_ids latest.manifest.checkpoints) → All (IsPinned o latest) latest.manifest.checkpoints → IsSound o
 sound o latest is manifests logs tables epochs gapless all line differ pins =

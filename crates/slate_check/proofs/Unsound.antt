@@ -16,7 +16,7 @@ use Rattle.slate_check.specs.declared.faults.ManifestFault.{ManifestFault}
 use Rattle.slate_check.specs.declared.faults.ManifestFault.TheVariants.{TableMissing, TableEmpty, NextLog, LogMissing, TablesEnd}
 use Rattle.slate_check.specs.declared.faults.SoundnessFault.{SoundnessFault}
 use Rattle.slate_check.specs.declared.faults.SoundnessFault.TheVariants as of_store
-use Rattle.slate_check.specs.Faults.{LacksBy, Shows, UnpinnedBy}
+use Rattle.slate_check.specs.Faults.{LacksBy, ShowsFault, UnpinnedBy}
 use Rattle.slate_check.specs.Named.{IsFirstWithout}
 use Rattle.slate_check.proofs.Lists.{all-at, distinct-at, gapless-at, numbered-at}
 
@@ -54,7 +54,7 @@ unpinned o latest checkpoint of_checkpoint.Content is wrong pin =
     let content_is : content_by o (Some latest) ≡ content o = sym (ap (content_by o) is) in
     wrong.5 (subst (λ m. IsPrefix (pinned_content o m) (content o)) one (subst (λ l. IsPrefix (pinned_content o pin.manifest) l) content_is pin.begins))
 
-pub unsound : (o : Objects) (fault : SoundnessFault) → Shows o fault → IsSound o → ⊥
+pub unsound : (o : Objects) (fault : SoundnessFault) → ShowsFault o fault → IsSound o → ⊥
 unsound o of_store.ManifestIds shown s = shown s.manifests
 unsound o of_store.LogIds shown s = shown s.logs
 unsound o of_store.TableIds shown s = shown s.tables

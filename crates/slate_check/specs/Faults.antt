@@ -7,7 +7,7 @@ use Rattle.slate_store.specs.declared.objects.Checkpoint.{Checkpoint}
 use Rattle.slate_store.specs.declared.objects.Manifest.{Manifest}
 use Rattle.slate_store.specs.declared.objects.VersionedManifest.{VersionedManifest}
 use Rattle.slate_store.specs.Checkpoints.{checkpoint_id}
-use Rattle.slate_store.specs.Content.{AreGapless, AreRising, HasItsLogs, IsPinned, IsSound, StoresTable, content, logs_above, pinned_content, table_batches}
+use Rattle.slate_store.specs.Content.{AreGapless, IdsRise, HasItsLogs, IsPinned, IsSound, StoresTable, content, logs_above, pinned_content, table_batches}
 use Rattle.slate_store.specs.Objects.{Objects, entry_at, latest_manifest, log_at, table_at, table_cmp}
 use Rattle.slate_check.specs.Named.{EndAt, kept_ids, IsFirstGap, IsFirstTwice, IsFirstUnnumbered, IsFirstWithout}
 use Rattle.slate_check.specs.declared.faults.CheckpointFault.{CheckpointFault}
@@ -52,8 +52,8 @@ ids_above objects manifest = map (λ log. log.0) (logs_above manifest.replay_aft
 
 -- What each says of objects; those of the latest manifest say something where there is one.
 abbrev pub Says : Objects → Clause → Type 0
-Says objects ManifestIds = AreRising (map (λ entry. entry.0) objects.manifests)
-Says objects LogIds = AreRising (map (λ log. log.0) objects.logs)
+Says objects ManifestIds = IdsRise (map (λ entry. entry.0) objects.manifests)
+Says objects LogIds = IdsRise (map (λ log. log.0) objects.logs)
 Says objects TableIds = IsStrictlySortedBy table_cmp (map (λ table. table.0) objects.tables)
 Says objects AManifest = latest_manifest objects ≡ None → (objects.logs ≡ []) × (objects.tables ≡ [])
 Says objects Epochs = IfSome (latest_manifest objects) (λ latest. All (λ table. table.0.epoch ≤ latest.manifest.writer_epoch) objects.tables)
@@ -105,12 +105,12 @@ IsOfLatest objects latest (of_store.Checkpoint id fault) = IsFirstUnpinned objec
 IsOfLatest objects latest fault = ⊥
 
 -- What a fault says of objects: which clause isn't so, and where.
-abbrev pub Shows : Objects → SoundnessFault → Type 0
-Shows objects of_store.ManifestIds = ¬ AreRising (map (λ entry. entry.0) objects.manifests)
-Shows objects of_store.LogIds = ¬ AreRising (map (λ log. log.0) objects.logs)
-Shows objects of_store.TableIds = ¬ IsStrictlySortedBy table_cmp (map (λ table. table.0) objects.tables)
-Shows objects of_store.NoManifest = (latest_manifest objects ≡ None) × ¬ ((objects.logs ≡ []) × (objects.tables ≡ []))
-Shows objects fault = (latest : VersionedManifest) × (latest_manifest objects ≡ Some latest) × IsOfLatest objects latest fault
+abbrev pub ShowsFault : Objects → SoundnessFault → Type 0
+ShowsFault objects of_store.ManifestIds = ¬ IdsRise (map (λ entry. entry.0) objects.manifests)
+ShowsFault objects of_store.LogIds = ¬ IdsRise (map (λ log. log.0) objects.logs)
+ShowsFault objects of_store.TableIds = ¬ IsStrictlySortedBy table_cmp (map (λ table. table.0) objects.tables)
+ShowsFault objects of_store.NoManifest = (latest_manifest objects ≡ None) × ¬ ((objects.logs ≡ []) × (objects.tables ≡ []))
+ShowsFault objects fault = (latest : VersionedManifest) × (latest_manifest objects ≡ Some latest) × IsOfLatest objects latest fault
 
 -- how many clauses come before the one that a fault is of
 abbrev pub place : SoundnessFault → ℕ
@@ -128,7 +128,7 @@ place (of_store.Checkpoint id fault) = 9
 -- a fault is the first one of objects: the clauses before it hold of them, and it shows that its own doesn't
 pub record IsFirst (objects : Objects) (fault : SoundnessFault) : Type 0 where
   pub earlier : AllByRecursion (Says objects) (take (place fault) clauses)
-  pub shown : Shows objects fault
+  pub shown : ShowsFault objects fault
 
 -- What is answered of objects: that they are sound, with the number of their last batch, or their first fault, and then
 -- they aren't.

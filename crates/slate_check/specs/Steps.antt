@@ -6,7 +6,7 @@ use Rattle.slate_types.specs.declared.batches.Batch.{Batch}
 use Rattle.slate_types.specs.Line.{IsLine, IsPrefix, Line}
 use Rattle.slate_store.specs.declared.objects.Manifest.{Manifest}
 use Rattle.slate_store.specs.declared.objects.VersionedManifest.{VersionedManifest}
-use Rattle.slate_store.specs.Content.{AreGapless, AreRising, HasItsLogs, StoresTable, content, logs_above, pinned_content, table_batches}
+use Rattle.slate_store.specs.Content.{AreGapless, IdsRise, HasItsLogs, StoresTable, content, logs_above, pinned_content, table_batches}
 use Rattle.slate_store.specs.Logs.{batches_between}
 use Rattle.slate_store.specs.Objects.{Objects, latest_manifest, log_at, table_at, table_cmp}
 use Rattle.slate_check.specs.declared.faults.CheckpointFault.{CheckpointFault}
@@ -19,8 +19,8 @@ use Rattle.slate_check.specs.Reads.{AreStoredTo}
 
 -- the ids of objects rise
 pub record IsOrdered (objects : Objects) : Type 0 where
-  pub manifests : AreRising (map (λ entry. entry.0) objects.manifests)
-  pub logs : AreRising (map (λ log. log.0) objects.logs)
+  pub manifests : IdsRise (map (λ entry. entry.0) objects.manifests)
+  pub logs : IdsRise (map (λ log. log.0) objects.logs)
   pub tables : IsStrictlySortedBy table_cmp (map (λ table. table.0) objects.tables)
 
 -- the ids fit the latest manifest: no table is of a later epoch, and the log files above its mark have no gap
@@ -63,7 +63,7 @@ pub record IsLoaded (objects : Objects) (latest : VersionedManifest) (read_table
 -- a line is the content of objects with this latest manifest, of which the ids rise
 pub record HasContent (objects : Objects) (latest : VersionedManifest) (seen : Line) : Type 0 where
   pub is : latest_manifest objects ≡ Some latest
-  pub manifests : AreRising (map (λ entry. entry.0) objects.manifests)
+  pub manifests : IdsRise (map (λ entry. entry.0) objects.manifests)
   pub line : IsLine (content objects)
   pub same : seen ≡ content objects
 

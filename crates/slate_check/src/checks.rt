@@ -3,7 +3,7 @@ ghost use Rattle.std.specs.Prelude.{◌≡◌, ◌-◌, ◌≤◌, IfErr, IfOk, 
 ghost use Rattle.slate_types.specs.Counts.{HasRisen};
 ghost use Rattle.slate_types.specs.Line.{IsLine};
 ghost use Rattle.slate_store.specs.Calls.{IsOfList};
-ghost use Rattle.slate_store.specs.Content.{AreRising, IsPinned, content};
+ghost use Rattle.slate_store.specs.Content.{IdsRise, IsPinned, content};
 ghost use Rattle.slate_store.specs.Objects.{Objects, latest_manifest, listing_of};
 ghost use Rattle.slate_check.specs.Faults.{IsFirstUnpinned, IsJudged, UnpinnedBy};
 ghost use Rattle.slate_check.specs.Named.{line_of};

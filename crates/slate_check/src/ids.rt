@@ -2,7 +2,7 @@
 ghost use Rattle.std.specs.Prelude.{◌≡◌, ◌↔◌, ◌+◌, ◌<◌, ◌≤◌, nat_eq, nat_lt, IsTrue, IfOk, MatchOption, MatchResult, All, filter, length};
 ghost use Rattle.std.specs.List.{IsDistinct};
 ghost use Rattle.std.specs.List.Sorted.{IsStrictlySortedBy};
-ghost use Rattle.slate_store.specs.Content.{AreGapless, AreRising};
+ghost use Rattle.slate_store.specs.Content.{AreGapless, IdsRise};
 ghost use Rattle.slate_store.specs.Objects.{table_cmp};
 ghost use Rattle.slate_check.specs.Named.{IsFirstGap, IsFirstTwice, IsFirstWithout, kept_ids};
 
@@ -13,7 +13,7 @@ use std::collections::BTreeSet;
 
 /// Whether each id is above those before it.
 pub(crate) fn are_rising(ids: &[u64]) -> bool
-    ensures { IsTrue result ↔ AreRising ids.now }
+    ensures { IsTrue result ↔ IdsRise ids.now }
 {
     ids.is_sorted_by(|before, id| *before < *id)
 }

@@ -2,7 +2,7 @@
 ghost use Rattle.std.specs.Prelude.{◌≡◌, ◌≤◌, None, length};
 ghost use Rattle.slate_types.specs.Counts.{HasRisen};
 ghost use Rattle.slate_types.specs.Modelled.{WhereModelled};
-ghost use Rattle.slate_streams.specs.Streams.{Fits, Reads, Takes, Writes};
+ghost use Rattle.slate_streams.specs.Streams.{Fits, ReadsInto, TakesPart, Writes};
 
 use slate_live::{ReadAnswer, Sink, Source, WriteAnswer};
 use std::io;
@@ -38,7 +38,7 @@ impl<T: io::Read> Source for Counted<T> {
         ensures faults { self.old.faults ≤ self.new.faults }
         ensures failed { result ≡ ReadAnswer.Failed → HasRisen self.old.faults self.new.faults }
         ensures fits { Fits (length buf.old) result }
-        ensures where_modelled { WhereModelled (Reads result buf.new) None None }
+        ensures where_modelled { WhereModelled (ReadsInto result buf.new) None None }
     {
         match self.inner.read(buf) {
             Ok(0) => ReadAnswer::End,
@@ -59,7 +59,7 @@ impl<T: io::Write> Sink for Counted<T> {
     fn write(&mut self, piece: &[u8]) -> WriteAnswer
         ensures faults { self.old.faults ≤ self.new.faults }
         ensures failed { result ≡ WriteAnswer.Failed → HasRisen self.old.faults self.new.faults }
-        ensures takes { Takes (length piece.now) result }
+        ensures takes { TakesPart (length piece.now) result }
         ensures where_modelled { WhereModelled (Writes result piece.now) None None }
     {
         match self.inner.write(piece) {

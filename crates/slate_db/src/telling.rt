@@ -1,6 +1,6 @@
 // What is told to the status that threads wait for.
 ghost use Rattle.std.specs.Prelude.{IfOk};
-ghost use Rattle.slate_status.specs.Segments.{AreRising};
+ghost use Rattle.slate_status.specs.Segments.{PrefixesRise};
 
 use bytes::Bytes;
 use slate_receivers::StatusManager;
@@ -31,7 +31,7 @@ pub(crate) fn tell_status<R: Wait>(
 
 /// The prefixes of a status, rising, each once.
 fn rising(alloc: Global, present: &DbStatus) -> Result<Seq<Bytes>, NoMemory>
-    ensures { IfOk result AreRising }
+    ensures { IfOk result PrefixesRise }
 {
     let prefixes = union(alloc, present.memtable_segments.as_slice(), &[])?;
     Ok(Seq::of(prefixes))

@@ -1,6 +1,6 @@
 // Reports to a manager and looks of a receiver, in turn in one thread, and the text of their answers.
 ghost use Rattle.std.specs.Prelude.{IfOk};
-ghost use Rattle.slate_status.specs.Segments.{AreRising};
+ghost use Rattle.slate_status.specs.Segments.{PrefixesRise};
 
 use crate::steps::Step::{
     Add, Await, Borrow, Both, Changed, Close, Closed, Durable, Memory, Opening, Status, Stored,
@@ -181,7 +181,7 @@ fn prefixes(alloc: Global, text: &'static [u8]) -> Result<Vec<Bytes>, NoMemory> 
 
 /// The prefixes of a text, rising.
 fn rising(alloc: Global, text: &'static [u8]) -> Result<Seq<Bytes>, NoMemory>
-    ensures { IfOk result AreRising }
+    ensures { IfOk result PrefixesRise }
 {
     let list = prefixes(alloc, text)?;
     Ok(Seq::of(union(alloc, list.as_slice(), &[])?))

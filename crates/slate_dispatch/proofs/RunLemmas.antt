@@ -5,33 +5,33 @@ use Rattle.slate_dispatch.specs.declared.tasks.TurnAnswer.{TurnAnswer}
 use Rattle.slate_dispatch.specs.declared.tickers.TickerDef.{TickerDef}
 use Rattle.slate_dispatch.specs.Handlers.{HandlerCall, Handle}
 use Rattle.slate_dispatch.specs.Origins.{of_queue, of_tickers, of_notifiers, due_at, first_ready}
-use Rattle.slate_dispatch.specs.Runs.{Event, Send, Call, sent, Gives, with_sent, Runs, GivesOnce}
+use Rattle.slate_dispatch.specs.Runs.{Event, Send, Call, sent, GivesMessages, with_sent, Runs, GivesOnce}
 use Rattle.slate_dispatch.specs.Tasks.{TaskCall, Turn, Cancel, Finish}
-use Rattle.slate_dispatch.specs.Turns.{Dispatching, Takes, Treats, Acts, DispatcherSteps}
+use Rattle.slate_dispatch.specs.Turns.{Dispatching, TakesTurn, Treats, Acts, DispatcherSteps}
 
 -- what the queue loses by a call is what the handler is given in it
 abbrev Loses : {H M : Type 0} → (H → HandlerCall M → H → Type 0) → Dispatching H M → TaskCall → Dispatching H M → Type 0
-Loses {H} {M} steps old call new = (given : List M) × Gives steps old call given new × (old.queue ≡ given ++ new.queue)
+Loses {H} {M} steps old call new = (given : List M) × GivesMessages steps old call given new × (old.queue ≡ given ++ new.queue)
 
 -- a message that comes from elsewhere leaves the queue as it is
 treats-queue : {H M : Type 0} (steps : H → HandlerCall M → H → Type 0) (reports : H → Option (Result (Unit {0}) CloseFault)) (message : Option M) (taken new : Dispatching H M) (answer : TurnAnswer) → Treats steps reports message taken answer new → new.queue ≡ taken.queue
 treats-queue steps reports (Some m) taken new answer (result, handles, says, after) = ap (λ d. d.queue) after
 treats-queue steps reports None taken new answer (says, after) = ap (λ d. d.queue) after
 
-notifiers-queue : {H M : Type 0} (steps : H → HandlerCall M → H → Type 0) (tickers : H → List TickerDef) (moment : ℤ) (random : ℕ) (ready : Option ℕ) (old : Dispatching H M) (message : Option M) (taken : Dispatching H M) → Takes steps tickers moment random (of_notifiers ready) old message taken → taken.queue ≡ old.queue
+notifiers-queue : {H M : Type 0} (steps : H → HandlerCall M → H → Type 0) (tickers : H → List TickerDef) (moment : ℤ) (random : ℕ) (ready : Option ℕ) (old : Dispatching H M) (message : Option M) (taken : Dispatching H M) → TakesTurn steps tickers moment random (of_notifiers ready) old message taken → taken.queue ≡ old.queue
 notifiers-queue steps tickers moment random (Some index) old (Some m) taken (step, after) = ap (λ d. d.queue) after
 notifiers-queue steps tickers moment random (Some index) old None taken takes = elim takes [ ]
 notifiers-queue steps tickers moment random None old (Some m) taken takes = elim takes [ ]
 notifiers-queue steps tickers moment random None old None taken takes = ap (λ d. d.queue) takes
 
-tickers-queue : {H M : Type 0} (steps : H → HandlerCall M → H → Type 0) (tickers : H → List TickerDef) (moment : ℤ) (random : ℕ) (due ready : Option ℕ) (old : Dispatching H M) (message : Option M) (taken : Dispatching H M) → Takes steps tickers moment random (of_tickers due ready) old message taken → taken.queue ≡ old.queue
+tickers-queue : {H M : Type 0} (steps : H → HandlerCall M → H → Type 0) (tickers : H → List TickerDef) (moment : ℤ) (random : ℕ) (due ready : Option ℕ) (old : Dispatching H M) (message : Option M) (taken : Dispatching H M) → TakesTurn steps tickers moment random (of_tickers due ready) old message taken → taken.queue ≡ old.queue
 tickers-queue steps tickers moment random (Some index) ready old (Some m) taken (step, (ticker, there, after)) = ap (λ d. d.queue) after
 tickers-queue steps tickers moment random (Some index) ready old None taken takes = elim takes [ ]
 tickers-queue steps tickers moment random None ready old message taken takes = notifiers-queue steps tickers moment random ready old message taken takes
 
 takes-loses : {H M : Type 0} (steps : H → HandlerCall M → H → Type 0) (tickers : H → List TickerDef) (reports : H → Option (Result (Unit {0}) CloseFault)) (moment : ℤ) (random : ℕ) (queue : List M) (due ready : Option ℕ) (old : Dispatching H M) (message : Option M) (taken new : Dispatching H M) (answer : TurnAnswer)
     → queue ≡ old.queue
-    → Takes steps tickers moment random (of_queue queue due ready) old message taken
+    → TakesTurn steps tickers moment random (of_queue queue due ready) old message taken
     → Treats steps reports message taken answer new
     → Loses steps old (Turn moment random answer) new
 takes-loses steps tickers reports moment random [] due ready old message taken new answer is takes treats =

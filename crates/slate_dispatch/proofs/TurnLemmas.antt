@@ -7,7 +7,7 @@ use Rattle.slate_dispatch.specs.declared.tickers.TickerDef.{TickerDef}
 use Rattle.slate_dispatch.specs.Handlers.{HandlerCall, Tick, Notify}
 use Rattle.slate_dispatch.specs.Origins.{Origin, Due, of_queue, of_tickers, of_notifiers, due_at, first_ready, TakesReady}
 use Rattle.slate_dispatch.specs.Tickers.{wait_of}
-use Rattle.slate_dispatch.specs.Turns.{Dispatching, Takes, Acts, origin}
+use Rattle.slate_dispatch.specs.Turns.{Dispatching, TakesTurn, Acts, origin}
 use Rattle.slate_dispatch.proofs.FirstReady.{AreFalseBelow, first-some}
 
 -- an empty queue leaves it to the tickers
@@ -22,7 +22,7 @@ pub takes-due : {H M : Type 0} (steps : H → HandlerCall M → H → Type 0) (t
     → steps old.handler (Tick index message) handler
     → slice_get (tickers old.handler) index ≡ Some ticker
     → dues ≡ slice_set old.dues index (moment +ℤ pos (wait_of ticker random))
-    → Takes steps tickers moment random (origin ready moment old) old (Some message) (record old { handler = handler; queue = queue; dues = dues })
+    → TakesTurn steps tickers moment random (origin ready moment old) old (Some message) (record old { handler = handler; queue = queue; dues = dues })
 takes-due {H} {M} steps tickers ready moment random old handler queue dues message index ticker empty still due step there dues_are =
     let new : Dispatching H M = record old { handler = handler; queue = queue; dues = dues } in
     let from : origin ready moment old ≡ Due index =
@@ -31,12 +31,12 @@ takes-due {H} {M} steps tickers ready moment random old handler queue dues messa
     let after : new ≡ record old { handler = handler; dues = next } =
     ap (λ (queue : List M). record old { handler = handler; queue = queue; dues = dues }) (still ∙ sym empty)
     ∙ ap (λ (dues : List ℤ). record old { handler = handler; dues = dues }) dues_are in
-    subst (λ (from : Origin M). Takes steps tickers moment random from old (Some message) new) (sym from) (step, (ticker, there, after))
+    subst (λ (from : Origin M). TakesTurn steps tickers moment random from old (Some message) new) (sym from) (step, (ticker, there, after))
 
 by_notifier : {H M : Type 0} (steps : H → HandlerCall M → H → Type 0) (tickers : H → List TickerDef) (moment : ℤ) (random : ℕ) (old new : Dispatching H M) (found : Option ℕ) (message : M)
     → TakesReady steps found old.handler message new.handler
     → new ≡ record old { handler = new.handler }
-    → Takes steps tickers moment random (of_notifiers found) old (Some message) new
+    → TakesTurn steps tickers moment random (of_notifiers found) old (Some message) new
 by_notifier steps tickers moment random old new (Some index) message step after = (step, after)
 by_notifier steps tickers moment random old new None message none after = elim none [ ]
 
@@ -44,10 +44,10 @@ of_polled : {H M : Type 0} (steps : H → HandlerCall M → H → Type 0) (ticke
     → IfNone found ((new.handler ≡ old.handler) × (first_ready (ready old.handler) ≡ None))
     → IfSome found (λ message. TakesReady steps (first_ready (ready old.handler)) old.handler message new.handler)
     → new ≡ record old { handler = new.handler }
-    → Takes steps tickers moment random (of_notifiers (first_ready (ready old.handler))) old found new
+    → TakesTurn steps tickers moment random (of_notifiers (first_ready (ready old.handler))) old found new
 of_polled {H} {M} steps tickers ready moment random old new None none some after =
     let same : new ≡ old = after ∙ ap (λ (handler : H). record old { handler = handler }) none.0 in
-    subst (λ (found : Option ℕ). Takes steps tickers moment random (of_notifiers found) old None new) (sym none.1) same
+    subst (λ (found : Option ℕ). TakesTurn steps tickers moment random (of_notifiers found) old None new) (sym none.1) same
 of_polled steps tickers ready moment random old new (Some message) none some after =
     by_notifier steps tickers moment random old new (first_ready (ready old.handler)) message some after
 
@@ -58,13 +58,13 @@ pub takes-polled : {H M : Type 0} (steps : H → HandlerCall M → H → Type 0)
     → due_at moment old.dues ≡ None
     → IfNone found ((handler ≡ old.handler) × (first_ready (ready old.handler) ≡ None))
     → IfSome found (λ message. TakesReady steps (first_ready (ready old.handler)) old.handler message handler)
-    → Takes steps tickers moment random (origin ready moment old) old found (record old { handler = handler; queue = queue })
+    → TakesTurn steps tickers moment random (origin ready moment old) old found (record old { handler = handler; queue = queue })
 takes-polled {H} {M} steps tickers ready moment random old handler queue found empty still due none some =
     let new : Dispatching H M = record old { handler = handler; queue = queue } in
     let from : origin ready moment old ≡ of_notifiers (first_ready (ready old.handler)) =
     origin-no_queue ready moment old empty ∙ ap (λ due. of_tickers due (first_ready (ready old.handler))) due in
     let after : new ≡ record old { handler = handler } = ap (λ (queue : List M). record old { handler = handler; queue = queue }) (still ∙ sym empty) in
-    subst (λ (from : Origin M). Takes steps tickers moment random from old found new) (sym from)
+    subst (λ (from : Origin M). TakesTurn steps tickers moment random from old found new) (sym from)
     (of_polled steps tickers ready moment random old new found none some after)
 
 -- the first notifier that answers is the first that has a message ready

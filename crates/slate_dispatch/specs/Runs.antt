@@ -17,15 +17,15 @@ sent (Send message ∷ events) = message ∷ sent events
 sent (Call call ∷ events) = sent events
 
 -- The handler is given these messages in a call: a turn has it handle one of them at most, and the end offers them.
-abbrev pub Gives : {H M : Type 0} → HandlerSteps H M → Dispatching H M → TaskCall → List M → Dispatching H M → Type 0
-Gives {H} {M} steps old (Turn moment random answer) given new =
+abbrev pub GivesMessages : {H M : Type 0} → HandlerSteps H M → Dispatching H M → TaskCall → List M → Dispatching H M → Type 0
+GivesMessages {H} {M} steps old (Turn moment random answer) given new =
     (given ≡ [])
     ⊎ ((message : M)
     × (result : Outcome)
     × (given ≡ message ∷ [])
     × steps old.handler (Handle message result) new.handler)
-Gives steps old Cancel given new = given ≡ []
-Gives steps old (Finish outcome) given new = steps old.handler (Cleanup given outcome) new.handler
+GivesMessages steps old Cancel given new = given ≡ []
+GivesMessages steps old (Finish outcome) given new = steps old.handler (Cleanup given outcome) new.handler
 
 abbrev pub with_sent : {H M : Type 0} → M → Dispatching H M → Dispatching H M
 with_sent message d = record d { queue = d.queue ++ message ∷ [] }
@@ -46,7 +46,7 @@ RunsGiving {H} {M} steps tickers ready reports old (Call call ∷ events) given 
     × (now later : List M)
     × (given ≡ now ++ later)
     × DispatcherSteps steps tickers ready reports old call mid
-    × Gives steps old call now mid
+    × GivesMessages steps old call now mid
     × RunsGiving steps tickers ready reports mid events later new
 
 -- Each message that is sent is given once, in order, or is still in the queue.

@@ -45,21 +45,21 @@ origin ready moment d = of_queue d.queue (due_at moment d.dues) (first_ready (re
 
 -- What taking the next message from where it comes leaves: the queue without it, or the handler after the call that
 -- made it; a ticker is due again its wait later.
-abbrev pub Takes : {H M : Type 0} → HandlerSteps H M → (H → List TickerDef) → ℤ → ℕ → Origin M → Dispatching H M → Option M → Dispatching H M → Type 0
-Takes steps tickers moment random (Sent first rest) old (Some message) new = (message ≡ first) × (new ≡ record old { queue = rest })
-Takes steps tickers moment random (Due index) old (Some message) new =
+abbrev pub TakesTurn : {H M : Type 0} → HandlerSteps H M → (H → List TickerDef) → ℤ → ℕ → Origin M → Dispatching H M → Option M → Dispatching H M → Type 0
+TakesTurn steps tickers moment random (Sent first rest) old (Some message) new = (message ≡ first) × (new ≡ record old { queue = rest })
+TakesTurn steps tickers moment random (Due index) old (Some message) new =
     steps old.handler (Tick index message) new.handler
     × ((ticker : TickerDef)
     × (slice_get (tickers old.handler) index ≡ Some ticker)
     × (new ≡ record old { handler = new.handler; dues = slice_set old.dues index (moment +ℤ pos (wait_of ticker random)) }))
-Takes steps tickers moment random (Ready index) old (Some message) new =
+TakesTurn steps tickers moment random (Ready index) old (Some message) new =
     steps old.handler (Notify index message) new.handler × (new ≡ record old { handler = new.handler })
-Takes steps tickers moment random Nowhere old None new = new ≡ old
+TakesTurn steps tickers moment random Nowhere old None new = new ≡ old
 -- there is a message exactly where it comes from somewhere
-Takes steps tickers moment random (Sent first rest) old None new = ⊥
-Takes steps tickers moment random (Due index) old None new = ⊥
-Takes steps tickers moment random (Ready index) old None new = ⊥
-Takes steps tickers moment random Nowhere old (Some message) new = ⊥
+TakesTurn steps tickers moment random (Sent first rest) old None new = ⊥
+TakesTurn steps tickers moment random (Due index) old None new = ⊥
+TakesTurn steps tickers moment random (Ready index) old None new = ⊥
+TakesTurn steps tickers moment random Nowhere old (Some message) new = ⊥
 
 -- what a turn answers by what the handler answered
 abbrev pub answer_of : Outcome → TurnAnswer
@@ -87,7 +87,7 @@ Acts steps tickers ready reports moment random true old answer new = (answer ≡
 Acts {H} {M} steps tickers ready reports moment random false old answer new =
     (message : Option M)
     × (mid : Dispatching H M)
-    × Takes steps tickers moment random (origin ready moment old) old message mid
+    × TakesTurn steps tickers moment random (origin ready moment old) old message mid
     × Treats steps reports message mid answer new
 
 -- a turn of a dispatcher is what it does, and that it reports its answer

@@ -93,7 +93,7 @@ impl<H: MessageHandler + Drop> Dispatcher<H> {
 }
 
 impl<H: MessageHandler> Dispatcher<H> {
-    ghost use Rattle.slate_dispatch.specs.Turns.{Sends, Takes, Acts, origin};
+    ghost use Rattle.slate_dispatch.specs.Turns.{Sends, TakesTurn, Acts, origin};
 
     /// Puts a message at the end of the queue. It is refused where the dispatcher was finished, with what `cell` holds;
     /// a refusal changes nothing.
@@ -120,7 +120,7 @@ impl<H: MessageHandler> Dispatcher<H> {
 
     /// Takes the next message, where there is one.
     fn next_message(&mut self, moment: i64, random: u64) -> Option<H::Message>
-        ensures takes { Takes H.steps H.schedule moment random (origin H.ready moment self.old) self.old result self.new }
+        ensures takes { TakesTurn H.steps H.schedule moment random (origin H.ready moment self.old) self.old result self.new }
         ensures flag { self.new.is_cancelled ≡ self.old.is_cancelled }
         ensures finished { self.new.finished ≡ self.old.finished }
     {

@@ -14,7 +14,7 @@ use Rattle.slate_store.specs.Logs.{HaveGap, HaveNoGap}
 use Rattle.slate_store.proofs.Logs.{no_gap-next, no_gap-passed}
 use Rattle.slate_feed.specs.declared.pieces.Found.{Found}
 use Rattle.slate_feed.specs.declared.pieces.Taken.TheVariants.{Whole, Gap, Below}
-use Rattle.slate_feed.specs.Taking.{Grows, Takes, TakesOne, greatest_number, is_some_batch}
+use Rattle.slate_feed.specs.Taking.{Grows, TakesPiece, TakesOne, greatest_number, is_some_batch}
 
 abbrev items : Found → List Batch
 items found = found.batches.items
@@ -170,7 +170,7 @@ module _ (cursor : ℕ) (piece so_far later : List Batch) (old now : Found) (b :
     gap t = record { front = so_far; batch = b; rest = later; parts = split; no_gap = s.no_gap; past = t.1 }
 
     -- the first batch that was ever read is past the next number
-    pub below : (floor limit : ℕ) → TakesOne cursor b now (Ok (Below floor)) now' → Takes cursor limit piece old (Ok (Below floor)) now'
+    pub below : (floor limit : ℕ) → TakesOne cursor b now (Ok (Below floor)) now' → TakesPiece cursor limit piece old (Ok (Below floor)) now'
     below floor limit t = (old_fresh, omega (arith, t.1, t.2, ap length nothing), (b, later, split ∙ ap (λ xs. xs ++ b ∷ later) none, t.2)) where
       neither : (x y : Bool) → (x || y) ≡ false → (x ≡ false) × (y ≡ false)
       neither false y h = (refl, h)
@@ -193,7 +193,7 @@ module _ (cursor : ℕ) (piece so_far later : List Batch) (old now : Found) (b :
       none = nil so_far both.1
 
 -- all of the piece was taken
-pub all-taken : (cursor limit n : ℕ) (all : List Batch) (old now : Found) → SoFar cursor (batches_above n all) (batches_above n (take (length all) all)) old now → Takes cursor limit (batches_above n all) old (Ok Whole) now
+pub all-taken : (cursor limit n : ℕ) (all : List Batch) (old now : Found) → SoFar cursor (batches_above n all) (batches_above n (take (length all) all)) old now → TakesPiece cursor limit (batches_above n all) old (Ok Whole) now
 all-taken cursor limit n all old now s =
     let same : take (length all) all ≡ all = take_all (length all) all (omega arith) in
     inr (

@@ -15,7 +15,7 @@ use Rattle.slate_store.proofs.Logs.{no_gap-append}
 use Rattle.slate_feed.specs.declared.pieces.Found.{Found}
 use Rattle.slate_feed.specs.declared.pieces.Taken.{Taken}
 use Rattle.slate_feed.specs.declared.pieces.Taken.TheVariants.{Whole, Gap, Below}
-use Rattle.slate_feed.specs.Taking.{Grows, IsThrough, Takes, greatest_number, is_some_batch}
+use Rattle.slate_feed.specs.Taking.{Grows, IsThrough, TakesPiece, greatest_number, is_some_batch}
 
 -- none of these has a number above this one
 abbrev AreThrough : ℕ → List Batch → Type 0
@@ -121,8 +121,8 @@ module _ (cursor limit : ℕ) (passed rest : List Batch) (p : Passed cursor pass
     go [] h low = refl
     go (x ∷ xs) h low = let more = go xs h.1 low in let at = h.0 in omega (arith, more, at, low)
 
-  pub takes-all : (found found' : Found) (result : Result Taken NoMemory) → Takes cursor limit rest found result found' → Takes cursor limit (passed ++ rest) found result found'
-  takes-all found found' (Ok Whole) t = elim t as (λ _. Takes cursor limit (passed ++ rest) found (Ok Whole) found') [
+  pub takes-all : (found found' : Found) (result : Result Taken NoMemory) → TakesPiece cursor limit rest found result found' → TakesPiece cursor limit (passed ++ rest) found result found'
+  takes-all found found' (Ok Whole) t = elim t as (λ _. TakesPiece cursor limit (passed ++ rest) found (Ok Whole) found') [
     | inl full ↦ inl full
     | inr all ↦ inr (
       leads-all (cursor + length found.batches.items) (cursor + length found'.batches.items) (omega arith) all.0,
@@ -147,7 +147,7 @@ module _ (cursor limit : ℕ) (passed rest : List Batch) (p : Passed cursor pass
         | inl none ↦ subst (λ xs. HaveNoGap (cursor + length found.batches.items) t.0 (xs ++ front)) (sym none) h
         | inr at ↦ let l = at.3 in no_gap-append (cursor + length found.batches.items) (cursor + length found.batches.items) t.0 passed front (no_gap-through (cursor + length found.batches.items) at.0.number passed at.4 (omega (arith, l))) h
       ]
-  takes-all found found' (Ok (Below floor)) (fresh, less, (batch, later, parts, is)) = elim p as (λ _. Takes cursor limit (passed ++ rest) found (Ok (Below floor)) found') [
+  takes-all found found' (Ok (Below floor)) (fresh, less, (batch, later, parts, is)) = elim p as (λ _. TakesPiece cursor limit (passed ++ rest) found (Ok (Below floor)) found') [
     | inl none ↦ (fresh, less, (batch, later, ap (λ xs. xs ++ rest) none ∙ parts, is))
     | inr at ↦ let l = at.3 in let same : at.0 ≡ batch = cc (at.2, parts) in let n = ap (λ (b : Batch). b.number) same in absurd (omega (arith, l, n, is, less))
   ]
@@ -167,5 +167,5 @@ module _ (cursor limit n place : ℕ) (bs : List Batch) (through : IsThrough cur
   pub first-from : number_before back cursor ≤ cursor → number_before (batches_above n bs) cursor ≤ cursor
   first-from low = subst (λ xs. number_before xs cursor ≤ cursor) (sym (parts-above n place bs)) (first-all cursor limit front back (passed-place cursor n place bs through rising) low)
 
-  pub takes-from : (found found' : Found) (result : Result Taken NoMemory) → Takes cursor limit back found result found' → Takes cursor limit (batches_above n bs) found result found'
-  takes-from found found' result t = subst (λ xs. Takes cursor limit xs found result found') (sym (parts-above n place bs)) (takes-all cursor limit front back (passed-place cursor n place bs through rising) found found' result t)
+  pub takes-from : (found found' : Found) (result : Result Taken NoMemory) → TakesPiece cursor limit back found result found' → TakesPiece cursor limit (batches_above n bs) found result found'
+  takes-from found found' result t = subst (λ xs. TakesPiece cursor limit xs found result found') (sym (parts-above n place bs)) (takes-all cursor limit front back (passed-place cursor n place bs through rising) found found' result t)

@@ -20,7 +20,7 @@ use Rattle.slate_feed.specs.declared.machines.Turn.{Turn}
 use Rattle.slate_feed.specs.declared.machines.Turn.TheVariants.{Goes, Ends, Breaks}
 use Rattle.slate_feed.specs.declared.refusals.FeedRefusal.{FeedRefusal}
 use Rattle.slate_feed.specs.declared.refusals.FeedRefusal.TheVariants as refusals
-use Rattle.slate_feed.specs.Answer.{Answers, Gives, HasNoneAbove, Reads, most_calls}
+use Rattle.slate_feed.specs.Answer.{Answers, GivesBatches, HasNoneAbove, ReadsBatches, most_calls}
 use Rattle.slate_feed.specs.Pieces.{Piece, joined, log_piece, log_pieces, pieces, table_piece, tables_to_read}
 use Rattle.slate_feed.specs.Reading.{IsGoing, IsStaged, Reading, begun, going_by, log_stage, made, reached, table_stage, taken}
 use Rattle.slate_feed.specs.Stepping.{LeadsOn, Meets, ReadsManifest, ReadsPiece, TakesAll}
@@ -163,7 +163,7 @@ module _ (o : Objects) (cursor limit : ℕ) (r : Reading) (g : Going o cursor li
           }
 
       -- all is read
-      pub ends-all : AreNumberedFrom cursor r'.found → rest' ≡ [] → length r'.found < limit → (r'.began ≡ false → r.tabled ≤ r.cursor) → Reads o cursor limit (Ok r'.found)
+      pub ends-all : AreNumberedFrom cursor r'.found → rest' ≡ [] → length r'.found < limit → (r'.began ≡ false → r.tabled ≤ r.cursor) → ReadsBatches o cursor limit (Ok r'.found)
       ends-all numbered none few low =
           record {
             latest = g.latest;
@@ -193,7 +193,7 @@ module _ (o : Objects) (cursor limit : ℕ) (r : Reading) (g : Going o cursor li
           }
 
     -- as many as were asked for are found
-    pub ends-full : AreNumberedFrom cursor r'.found → length r'.found ≡ limit → Reads o cursor limit (Ok r'.found)
+    pub ends-full : AreNumberedFrom cursor r'.found → length r'.found ≡ limit → ReadsBatches o cursor limit (Ok r'.found)
     ends-full numbered full =
         record {
           latest = g.latest;
@@ -211,7 +211,7 @@ module _ (o : Objects) (cursor limit : ℕ) (r : Reading) (g : Going o cursor li
           go (x ∷ xs) is h = let s = subst (λ ys. All (Contains {X = Batch} []) ys) is h in let c = All-head (Contains {X = Batch} []) x xs s in omega (arith, c.1)
 
   -- a batch is past the next number
-  pub breaks : (end : ℕ) → HaveGap (reached (taken r)) end batches → (r.began ≡ false → number_before batches r.cursor ≤ r.cursor) → Reads o cursor limit (Err refusals.Moved)
+  pub breaks : (end : ℕ) → HaveGap (reached (taken r)) end batches → (r.began ≡ false → number_before batches r.cursor ≤ r.cursor) → ReadsBatches o cursor limit (Err refusals.Moved)
   breaks end gap first =
       record {
         latest = g.latest;
@@ -243,7 +243,7 @@ module _ (o : Objects) (cursor limit : ℕ) (r : Reading) (g : Going o cursor li
           }
 
   -- the cursor is below the number before the first batch
-  pub below : (at floor : ℕ) → r.began ≡ false → at ≡ r.cursor → r.cursor < floor → floor ≡ number_before batches r.tabled → (batches ≡ [] → rest' ≡ []) → Reads o cursor limit (Err (refusals.BeforeFloor at floor))
+  pub below : (at floor : ℕ) → r.began ≡ false → at ≡ r.cursor → r.cursor < floor → floor ≡ number_before batches r.tabled → (batches ≡ [] → rest' ≡ []) → ReadsBatches o cursor limit (Err (refusals.BeforeFloor at floor))
   below at floor fresh is less before left =
       let nothing : joined g.parts ≡ [] = nil-from_none (joined g.parts) (sym g.began ∙ fresh) in
       let all : joined parts' ≡ batches = more ∙ ap (λ xs. xs ++ batches) nothing in
@@ -263,7 +263,7 @@ module _ (o : Objects) (cursor limit : ℕ) (r : Reading) (g : Going o cursor li
       }
 
 -- a piece isn't stored
-pub missing : (o : Objects) (cursor limit : ℕ) (r : Reading) (others : List Piece) → Going o cursor limit r → ahead r.stage o r ≡ None ∷ others → Reads o cursor limit (Err refusals.Moved)
+pub missing : (o : Objects) (cursor limit : ℕ) (r : Reading) (others : List Piece) → Going o cursor limit r → ahead r.stage o r ≡ None ∷ others → ReadsBatches o cursor limit (Err refusals.Moved)
 missing o cursor limit r others g left =
     record {
       latest = g.latest;
@@ -384,10 +384,10 @@ module _ (o : Objects) (cursor limit : ℕ) (r : Reading) (g : Going o cursor li
       goes o cursor limit r g batches n.parts' (ahead next o r) n.read' n.more r' on all
       (ap (λ s. ahead s o r') staged ∙ ahead-same o r r' next (ap (λ (x : Reading). x.tables) on.same) (ap (λ (x : Reading). x.tabled) on.same) (ap (λ (x : Reading). x.mark) on.same))
 
-  pub piece-ends : (r' : Reading) → ReadsPiece piece next (taken r) (Ok Ends) r' → AreNumberedFrom cursor r'.found → Reads o cursor limit (Ok r'.found)
+  pub piece-ends : (r' : Reading) → ReadsPiece piece next (taken r) (Ok Ends) r' → AreNumberedFrom cursor r'.found → ReadsBatches o cursor limit (Ok r'.found)
   piece-ends r' (batches, is, on, how) numbered =
       let n = next-parts batches is in
-      elim how as (λ _. Reads o cursor limit (Ok r'.found)) [
+      elim how as (λ _. ReadsBatches o cursor limit (Ok r'.found)) [
         | inl full ↦ ends-full o cursor limit r g batches n.parts' (ahead next o r) n.read' n.more r' on numbered (full ∙ g.to_limit)
         | inr all ↦ ends-all o cursor limit r g batches n.parts' (ahead next o r) n.read' n.more r' on all.0 numbered (n.ended all.1) (subst (λ k. length r'.found < k) g.to_limit all.2) all.3
       ]
@@ -400,16 +400,16 @@ module _ (o : Objects) (cursor limit : ℕ) (r : Reading) (g : Going o cursor li
         | inr all ↦ ends-none o cursor limit r g batches n.parts' (ahead next o r) n.read' n.more r' on all.0 (n.ended all.1) nothing
       ]
 
-  pub piece-breaks : (r' : Reading) → ReadsPiece piece next (taken r) (Ok Breaks) r' → Reads o cursor limit (Err refusals.Moved)
-  piece-breaks r' how = elim how as (λ _. Reads o cursor limit (Err refusals.Moved)) [
-    | inl none ↦ elim place as (λ _. Reads o cursor limit (Err refusals.Moved)) [
+  pub piece-breaks : (r' : Reading) → ReadsPiece piece next (taken r) (Ok Breaks) r' → ReadsBatches o cursor limit (Err refusals.Moved)
+  piece-breaks r' how = elim how as (λ _. ReadsBatches o cursor limit (Err refusals.Moved)) [
+    | inl none ↦ elim place as (λ _. ReadsBatches o cursor limit (Err refusals.Moved)) [
       | inl p ↦ missing o cursor limit r (ahead next o r) g (p.0 ∙ ap (λ (x : Piece). x ∷ ahead next o r) none)
       | inr p ↦ absurd (cc (p.0, none))
     ]
     | inr gap ↦ let n = next-parts gap.0 gap.2 in breaks o cursor limit r g gap.0 n.parts' (ahead next o r) n.read' n.more gap.1 gap.3 gap.4
   ]
 
-  pub piece-below : (r' : Reading) (at floor : ℕ) → ReadsPiece piece next (taken r) (Err (refusals.BeforeFloor at floor)) r' → Reads o cursor limit (Err (refusals.BeforeFloor at floor))
+  pub piece-below : (r' : Reading) (at floor : ℕ) → ReadsPiece piece next (taken r) (Err (refusals.BeforeFloor at floor)) r' → ReadsBatches o cursor limit (Err (refusals.BeforeFloor at floor))
   piece-below r' at floor (batches, is, fresh, at_is, less, before, left) =
       let n = next-parts batches is in
       below o cursor limit r g batches n.parts' (ahead next o r) n.read' n.more at floor fresh at_is less before (λ none. n.ended (left none))
@@ -465,21 +465,21 @@ module _ (o : Objects) (cursor limit : ℕ) (r : Reading) (g : Going o cursor li
   steps-within (ReadLog id last) staged later knows going = let within = staged.2 in omega (arith, within, knows)
   steps-within Ended staged later knows going = absurd going
 
-  ends-with : (s : Stage) (r' : Reading) → r.stage ≡ s → IsStaged s r → s ≢ ReadLatest → Meets s o (taken r) (Ok Ends) r' → AreNumberedFrom cursor r'.found → Reads o cursor limit (Ok r'.found)
+  ends-with : (s : Stage) (r' : Reading) → r.stage ≡ s → IsStaged s r → s ≢ ReadLatest → Meets s o (taken r) (Ok Ends) r' → AreNumberedFrom cursor r'.found → ReadsBatches o cursor limit (Ok r'.found)
   ends-with ReadLatest r' is staged later m = absurd (later refl)
   ends-with (ReadTable at) r' is staged later (id, found, m) = piece-ends o cursor limit r g (table_piece o id) (table_stage r.tables (at + 1)) (inl (table-place at id is found)) r' m
   ends-with AskLast r' is staged later m = piece-ends o cursor limit r g (Some []) (log_stage r.mark (last_log r.mark o)) (inr (last-place is)) r' m
   ends-with (ReadLog id last) r' is staged later m = piece-ends o cursor limit r g (log_piece r.tabled o id) (log_stage id last) (inl (log-place id last is staged.2)) r' m
   ends-with Ended r' is staged later m = absurd m
 
-  breaks-off : (s : Stage) (r' : Reading) → r.stage ≡ s → IsStaged s r → s ≢ ReadLatest → Meets s o (taken r) (Ok Breaks) r' → Reads o cursor limit (Err refusals.Moved)
+  breaks-off : (s : Stage) (r' : Reading) → r.stage ≡ s → IsStaged s r → s ≢ ReadLatest → Meets s o (taken r) (Ok Breaks) r' → ReadsBatches o cursor limit (Err refusals.Moved)
   breaks-off ReadLatest r' is staged later m = absurd (later refl)
   breaks-off (ReadTable at) r' is staged later (id, found, m) = piece-breaks o cursor limit r g (table_piece o id) (table_stage r.tables (at + 1)) (inl (table-place at id is found)) r' m
   breaks-off AskLast r' is staged later m = piece-breaks o cursor limit r g (Some []) (log_stage r.mark (last_log r.mark o)) (inr (last-place is)) r' m
   breaks-off (ReadLog id last) r' is staged later m = piece-breaks o cursor limit r g (log_piece r.tabled o id) (log_stage id last) (inl (log-place id last is staged.2)) r' m
   breaks-off Ended r' is staged later m = absurd m
 
-  below-floor : (s : Stage) (r' : Reading) (at floor : ℕ) → r.stage ≡ s → IsStaged s r → s ≢ ReadLatest → Meets s o (taken r) (Err (refusals.BeforeFloor at floor)) r' → Reads o cursor limit (Err (refusals.BeforeFloor at floor))
+  below-floor : (s : Stage) (r' : Reading) (at floor : ℕ) → r.stage ≡ s → IsStaged s r → s ≢ ReadLatest → Meets s o (taken r) (Err (refusals.BeforeFloor at floor)) r' → ReadsBatches o cursor limit (Err (refusals.BeforeFloor at floor))
   below-floor ReadLatest r' at floor is staged later m = absurd (later refl)
   below-floor (ReadTable place) r' at floor is staged later (id, found, m) = piece-below o cursor limit r g (table_piece o id) (table_stage r.tables (place + 1)) (inl (table-place place id is found)) r' at floor m
   below-floor AskLast r' at floor is staged later m = piece-below o cursor limit r g (Some []) (log_stage r.mark (last_log r.mark o)) (inr (last-place is)) r' at floor m
@@ -545,7 +545,7 @@ module _ (o : Objects) (cursor limit : ℕ) (r : Reading) (fresh : r ≡ begun c
       add-zero' : (n : ℕ) → n + 0 ≡ n
       add-zero' n = omega arith
 
-  start-ends : (r' : Reading) → ReadsManifest (latest_manifest o) (taken r) (Ok Ends) r' → Reads o cursor limit (Ok r'.found)
+  start-ends : (r' : Reading) → ReadsManifest (latest_manifest o) (taken r) (Ok Ends) r' → ReadsBatches o cursor limit (Ok r'.found)
   start-ends r' (some, none, same) = go (latest_manifest o) refl some where
     nothing : r'.found ≡ []
     nothing = same ∙ ap (λ (x : Reading). x.found) fresh
@@ -553,7 +553,7 @@ module _ (o : Objects) (cursor limit : ℕ) (r : Reading) (fresh : r ≡ begun c
     zero_is : 0 ≡ limit
     zero_is = sym (sym (ap (λ (x : Reading). x.limit) fresh) ∙ none)
 
-    go : (found : Option VersionedManifest) → latest_manifest o ≡ found → found ≢ None → Reads o cursor limit (Ok r'.found)
+    go : (found : Option VersionedManifest) → latest_manifest o ≡ found → found ≢ None → ReadsBatches o cursor limit (Ok r'.found)
     go None is some = absurd (some refl)
     go (Some latest) is some =
         record {
@@ -562,7 +562,7 @@ module _ (o : Objects) (cursor limit : ℕ) (r : Reading) (fresh : r ≡ begun c
           parts = [];
           rest = pieces cursor latest.manifest o;
           read = refl;
-          gives = subst (λ xs. Gives latest.manifest.last_l0_seq cursor limit [] (pieces cursor latest.manifest o) (Ok xs)) (sym nothing)
+          gives = subst (λ xs. GivesBatches latest.manifest.last_l0_seq cursor limit [] (pieces cursor latest.manifest o) (Ok xs)) (sym nothing)
               (tt, All-nil (Contains {X = Batch} []), λ less. absurd (omega (arith, less, zero_is)), inl zero_is);
         }
 
@@ -586,13 +586,13 @@ module _ (o : Objects) (cursor limit : ℕ) (r : Reading) (staged : IsStaged r.s
   ]
 
   pub run-ends : (r' : Reading) → Meets r.stage o (taken r) (Ok Ends) r' → AreNumberedFrom cursor r'.found → Answers o cursor limit (Ok r'.found)
-  run-ends r' m numbered = elim runs as (λ _. Reads o cursor limit (Ok r'.found)) [
+  run-ends r' m numbered = elim runs as (λ _. ReadsBatches o cursor limit (Ok r'.found)) [
     | inl fresh ↦ at-start (Ok Ends) r' fresh m (start-ends o cursor limit r fresh r')
     | inr g ↦ ends-with o cursor limit r g.0 r.stage r' refl staged g.1 m numbered
   ]
 
   pub run-breaks : (r' : Reading) → Meets r.stage o (taken r) (Ok Breaks) r' → Answers o cursor limit (Err refusals.Moved)
-  run-breaks r' m = elim runs as (λ _. Reads o cursor limit (Err refusals.Moved)) [
+  run-breaks r' m = elim runs as (λ _. ReadsBatches o cursor limit (Err refusals.Moved)) [
     | inl fresh ↦ at-start (Ok Breaks) r' fresh m (λ (h : ⊥). absurd h)
     | inr g ↦ breaks-off o cursor limit r g.0 r.stage r' refl staged g.1 m
   ]

@@ -19,7 +19,7 @@ use Rattle.slate_store.proofs.Gapless.{between-gapless, gapless-greatest, stored
 use Rattle.slate_store.proofs.Logs.{no_gap-end, no_gap-numbered, no_gap-parts, numbered-stand}
 use Rattle.slate_feed.specs.declared.refusals.FeedRefusal.{FeedRefusal}
 use Rattle.slate_feed.specs.declared.refusals.FeedRefusal.TheVariants as refusals
-use Rattle.slate_feed.specs.Answer.{Answers, Delivers, Gives, HasNoneAbove, Opens, OpensWithin}
+use Rattle.slate_feed.specs.Answer.{Answers, Delivers, GivesBatches, HasNoneAbove, Opens, OpensWithin}
 use Rattle.slate_feed.specs.Pieces.{Piece, joined, log_piece, log_pieces, pieces, table_piece, tables_to_read}
 use Rattle.slate_feed.specs.Taking.{greatest_number}
 
@@ -315,7 +315,7 @@ module _ (o : Objects) (sound : IsSound o) (latest : VersionedManifest) (is_late
         (λ b there. contents-in cursor b (subst (λ xs. Contains xs b) (sym covers) (Contains-append_left (joined parts) (joined unread.0) b there))) batches from
 
     -- over sound objects no batch is past the next number, and each piece is stored
-    unmoved : (limit : ℕ) → Gives tabled cursor limit (joined parts) rest (Err refusals.Moved) → ⊥
+    unmoved : (limit : ℕ) → GivesBatches tabled cursor limit (joined parts) rest (Err refusals.Moved) → ⊥
     unmoved limit (first, how) = elim how as (λ _. ⊥) [
       | inl gone ↦ stays unread.0 gone.0 (sym unread.2 ∙ gone.1)
       | inr gap ↦
@@ -338,7 +338,7 @@ module _ (o : Objects) (sound : IsSound o) (latest : VersionedManifest) (is_late
       nonempty (x ∷ xs) b ys h = absurd (cc)
 
     -- what is given is right above the cursor
-    given : (limit : ℕ) (batches : List Batch) → Gives tabled cursor limit (joined parts) rest (Ok batches) →
+    given : (limit : ℕ) (batches : List Batch) → GivesBatches tabled cursor limit (joined parts) rest (Ok batches) →
         (0 < limit → floor ≤ cursor) × (batches ≡ take limit (batches_above cursor (tables ++ logs))) × (length batches ≡ min limit (floor + length (tables ++ logs) - cursor))
     given zero batches (numbered', from, first, how) =
         let none : batches ≡ [] = elim how as (λ _. batches ≡ []) [ inl full ↦ nil-from-length batches full | inr few ↦ let l = few.0 in absurd (omega (arith, l)) ] in

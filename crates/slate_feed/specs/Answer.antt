@@ -14,25 +14,25 @@ use Rattle.slate_feed.specs.Taking.{greatest_number}
 -- What a call gives that has read these batches, while the rest of the pieces isn't read. It gives batches of those, numbered one after
 -- another from the cursor on: as many as were asked for, or all above the cursor, with nothing left to read. It refuses a cursor
 -- below the number before the first of them, or, where all pieces are read and there is no batch, below the last number in tables.
-abbrev pub Gives : (tabled cursor limit : ℕ) → (read : List Batch) → (rest : List Piece) → Result (List Batch) FeedRefusal → Type 0
-Gives tabled cursor limit read rest (Ok batches) =
+abbrev pub GivesBatches : (tabled cursor limit : ℕ) → (read : List Batch) → (rest : List Piece) → Result (List Batch) FeedRefusal → Type 0
+GivesBatches tabled cursor limit read rest (Ok batches) =
     AreNumberedFrom cursor batches × All (Contains read) batches × (0 < limit → number_before read tabled ≤ cursor)
     × ((length batches ≡ limit) ⊎ ((length batches < limit) × (rest ≡ []) × HaveNoGap cursor (cursor + length batches) read))
-Gives tabled cursor limit read rest (Err (BeforeFloor at floor)) =
+GivesBatches tabled cursor limit read rest (Err (BeforeFloor at floor)) =
     (at ≡ cursor) × (cursor < floor) × (floor ≡ number_before read tabled) × (read ≡ [] → rest ≡ []) × (0 < limit)
-Gives tabled cursor limit read rest (Err Moved) =
+GivesBatches tabled cursor limit read rest (Err Moved) =
     (read ≢ [] → number_before read tabled ≤ cursor)
     × (((others : List Piece) × (rest ≡ None ∷ others)) ⊎ ((last : ℕ) × HaveGap cursor last read))
-Gives tabled cursor limit read rest (Err refusal) = ⊥
+GivesBatches tabled cursor limit read rest (Err refusal) = ⊥
 
 -- The latest manifest is this one, the first of its pieces were read, and this is given.
-pub record Reads (objects : Objects) (cursor limit : ℕ) (result : Result (List Batch) FeedRefusal) : Type 0 where
+pub record ReadsBatches (objects : Objects) (cursor limit : ℕ) (result : Result (List Batch) FeedRefusal) : Type 0 where
   pub latest : VersionedManifest
   pub is_latest : latest_manifest objects ≡ Some latest
   pub parts : List (List Batch)
   pub rest : List Piece
   pub read : pieces cursor latest.manifest objects ≡ map Some parts ++ rest
-  pub gives : Gives latest.manifest.last_l0_seq cursor limit (joined parts) rest result
+  pub gives : GivesBatches latest.manifest.last_l0_seq cursor limit (joined parts) rest result
 
 -- What a call answers over objects: that there is no manifest, or what it gives; a failure of the store and want of memory have no
 -- cause in them.
@@ -40,7 +40,7 @@ abbrev pub Answers : Objects → (cursor limit : ℕ) → Result (List Batch) Fe
 Answers objects cursor limit (Err LatestTransactionalObjectVersionMissing) = latest_manifest objects ≡ None
 Answers objects cursor limit (Err ObjectStoreError) = Unit {0}
 Answers objects cursor limit (Err NoMemory) = Unit {0}
-Answers objects cursor limit result = Reads objects cursor limit result
+Answers objects cursor limit result = ReadsBatches objects cursor limit result
 
 -- What it answers where what is stored is a line: the batches of the line right above the cursor, up to the limit. It refuses a
 -- cursor below the line's floor.

@@ -35,15 +35,15 @@ TakesOne cursor batch found (Err error) found' = Stays found found'
 
 -- How a piece is taken: as many as were asked for are found, or all of it was taken, or a batch is past the next number,
 -- and then that may be the first that was ever read.
-abbrev pub Takes : (cursor limit : ℕ) → (piece : List Batch) → Found → Result Taken NoMemory → Found → Type 0
-Takes cursor limit piece found (Ok Whole) found' =
+abbrev pub TakesPiece : (cursor limit : ℕ) → (piece : List Batch) → Found → Result Taken NoMemory → Found → Type 0
+TakesPiece cursor limit piece found (Ok Whole) found' =
     (length found'.batches.items ≡ limit)
     ⊎ (HaveNoGap (cursor + length found.batches.items) (cursor + length found'.batches.items) piece
     × (found'.began ≡ (found.began || is_some_batch piece)) × (found'.end ≡ greatest_number found.end piece))
-Takes cursor limit piece found (Ok Gap) found' = (end : ℕ) × HaveGap (cursor + length found.batches.items) end piece
-Takes cursor limit piece found (Ok (Below floor)) found' =
+TakesPiece cursor limit piece found (Ok Gap) found' = (end : ℕ) × HaveGap (cursor + length found.batches.items) end piece
+TakesPiece cursor limit piece found (Ok (Below floor)) found' =
     (found.began ≡ false) × (cursor < floor) × ((batch : Batch) × (rest : List Batch) × (piece ≡ batch ∷ rest) × (floor ≡ batch.number - 1))
-Takes cursor limit piece found (Err error) found' = Unit {0}
+TakesPiece cursor limit piece found (Err error) found' = Unit {0}
 
 -- what was found goes on by batches of a piece
 abbrev pub Grows : (piece found found' : List Batch) → Type 0

@@ -3,7 +3,7 @@ ghost use Rattle.std.specs.Prelude.{◌≡◌, ◌≢◌, ◌+◌, ◌<◌, ◌�
 ghost use Rattle.slate_types.specs.Line.{AreNumberedFrom, batches_above};
 ghost use Rattle.slate_store.specs.Content.{number_before};
 ghost use Rattle.slate_reads.specs.Index.{AreRising};
-ghost use Rattle.slate_feed.specs.Taking.{IsNoneBelow, IsThrough, Grows, Takes, TakesOne};
+ghost use Rattle.slate_feed.specs.Taking.{IsNoneBelow, IsThrough, Grows, TakesPiece, TakesOne};
 
 use slate_types::{Batch, NoMemory};
 
@@ -58,7 +58,7 @@ pub(crate) fn take_next(
     ensures within { length found.new.batches.items ≤ limit }
     ensures grows { Grows (batches_above above batches.now) found.old.batches.items found.new.batches.items }
     ensures first { IsNoneBelow result → found.old.began ≡ false → number_before (batches_above above batches.now) cursor ≤ cursor }
-    ensures takes { Takes cursor limit (batches_above above batches.now) found.old result found.new }
+    ensures takes { TakesPiece cursor limit (batches_above above batches.now) found.old result found.new }
 {
     for batch in batches {
         if batch.number <= above {
@@ -100,7 +100,7 @@ pub(crate) fn take_from(
     ensures within { length found.new.batches.items ≤ limit }
     ensures grows { Grows (batches_above above batches.now) found.old.batches.items found.new.batches.items }
     ensures first { IsNoneBelow result → found.old.began ≡ false → number_before (batches_above above batches.now) cursor ≤ cursor }
-    ensures takes { Takes cursor limit (batches_above above batches.now) found.old result found.new }
+    ensures takes { TakesPiece cursor limit (batches_above above batches.now) found.old result found.new }
 {
     take_next(found, cursor, limit, above, &batches[from..])
 }

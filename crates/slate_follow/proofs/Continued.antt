@@ -35,7 +35,7 @@ use Rattle.slate_model.specs.declared.answers.PollAnswer.TheVariants.{Truncated,
 use Rattle.slate_model.specs.declared.leases.Lease.{Lease}
 use Rattle.slate_follow.specs.Lagging.{IsLastTaken, MayWait, MustRead}
 use Rattle.slate_follow.specs.Rebuilding.{Builds, Continues, GoesOn, GoingLacks, Lacks, Reaches, ReplaysView, TakesUnder, TakingLacks, Truncates, answer_of, followed, reached, unleased}
-use Rattle.slate_follow.specs.Takings.{Gives, Taking, installed}
+use Rattle.slate_follow.specs.Takings.{GivesTaking, Taking, installed}
 use Rattle.slate_follow.proofs.Anew.{Waits, WhyRead, builds-lack, builds-polled, read-or-waits}
 use Rattle.slate_follow.proofs.Above.{above-append, above-twice}
 use Rattle.slate_follow.proofs.Lagging.{reads-far, waits-near}
@@ -290,7 +290,7 @@ module _ (t t1 : Option Objects) (kept : t1 ≡ t) (view : VersionedManifest) (l
 
   pub gone-on : (added : List Batch) (found : Replayed) → IfSome t1 (λ o. Replays from last (number old) [] added o (Ok found)) → old.tasks ≡ follower_tasks old.mode → old.result ≡ None → (taking : Taking) (mark : ℕ) →
       taking.line ≡ line_of view.manifest.last_l0_seq (batches_above view.manifest.last_l0_seq (old.line.batches ++ added)) → taking.mark ≡ mark → mark ≡ reached found last → taking.replayed ≡ found →
-      IfSome t (λ o. (last : ℕ) × IsLastTaken old.lag (number old) (max old.mark view.manifest.replay_after_wal_id) o last × Gives (GoesOn o view last old) view old taking)
+      IfSome t (λ o. (last : ℕ) × IsLastTaken old.lag (number old) (max old.mark view.manifest.replay_after_wal_id) o last × GivesTaking (GoesOn o view last old) view old taking)
   gone-on added found logs tasks open_ taking mark line mark_is reaches ended =
       if_some t (λ o at. (
         last,

@@ -26,7 +26,7 @@ use Rattle.slate_model.specs.declared.leases.Lease.{Lease}
 use Rattle.slate_follow.specs.Keeping.{IsNews, Replaces, informed}
 use Rattle.slate_follow.specs.Lagging.{IsLastRead}
 use Rattle.slate_follow.specs.Rebuilding.{TakesUnder, Truncates, answer_of, goes_on, reached, unleased}
-use Rattle.slate_follow.specs.Takings.{Gives, HasOwn, Taking, installed}
+use Rattle.slate_follow.specs.Takings.{GivesTaking, HasOwn, Taking, installed}
 use Rattle.slate_follow.proofs.Above.{above-append, numbered-above}
 use Rattle.slate_follow.proofs.Continued.{took-truncates}
 use Rattle.slate_follow.proofs.Informed.{tabled-same}
@@ -88,9 +88,9 @@ module _ (view : VersionedManifest) (taking : Taking) (lease : Option Lease) (ol
   has-segments x floor own = has-own x view old new taking (ap (λ (f : Follower). f.view) becomes) (ap (λ (f : Follower). f.line) becomes) (ap (λ (f : Follower). f.segments) becomes) floor own
 
   -- where it was taken under a manifest, log files break off as the answer says
-  pub has-truncated : (latest : VersionedManifest) (t : Option Objects) → IfSome t (λ o. Gives (TakesUnder o latest old) latest old taking) → IfSome t (λ o. Truncates o new answer)
+  pub has-truncated : (latest : VersionedManifest) (t : Option Objects) → IfSome t (λ o. GivesTaking (TakesUnder o latest old) latest old taking) → IfSome t (λ o. Truncates o new answer)
   has-truncated latest t gives = if_some t (λ o at.
-      let takes = some_at (λ o. Gives (TakesUnder o latest old) latest old taking) t o at gives in
+      let takes = some_at (λ o. GivesTaking (TakesUnder o latest old) latest old taking) t o at gives in
       let under = unleased (installed latest taking old) in
       let here = took-truncates o latest old under (answer_of taking.replayed (number (installed latest taking old))) takes in
       let same : number (installed latest taking old) ≡ number new = sym (ap number becomes) in
@@ -103,7 +103,7 @@ module _ (plan : Plan Lease) (taking : Taking) (old new : Follower) where
   replaced-open managed open_ (Err e) became = tt
   replaced-open managed open_ (Ok answer) (next, given, gives, becomes, answers) = has-open next taking (Some given) old new answer becomes answers managed open_
 
-  pub replaced-truncates : (latest : VersionedManifest) (t : Option Objects) → IfSome t (λ o. Gives (TakesUnder o latest old) latest old taking) → (r : Result PollAnswer SlateError) → IfOk r (λ answer. Replaces plan taking old new answer) → IfOk r (λ answer. IfSome t (λ o. Truncates o new answer))
+  pub replaced-truncates : (latest : VersionedManifest) (t : Option Objects) → IfSome t (λ o. GivesTaking (TakesUnder o latest old) latest old taking) → (r : Result PollAnswer SlateError) → IfOk r (λ answer. Replaces plan taking old new answer) → IfOk r (λ answer. IfSome t (λ o. Truncates o new answer))
   replaced-truncates latest t gives (Err e) became = tt
   replaced-truncates latest t gives (Ok answer) (next, given, puts, becomes, answers) = has-truncated next taking (Some given) old new answer becomes answers latest t gives
 
@@ -153,7 +153,7 @@ module _ (o : Objects) (latest : VersionedManifest) (old : Follower) (taking : T
   counted : (a : Replayed) → answer_of taking.replayed (number (installed latest taking old)) ≡ answer_of a (number (unleased (installed latest taking old))) → answer ≡ answer_of a (number new)
   counted a is = answers ∙ (ap (answer_of taking.replayed) (ap number becomes) ∙ (is ∙ ap (answer_of a) (sym (ap number becomes))))
 
-  pub has-news : Gives (TakesUnder o latest old) latest old taking → HasNews
+  pub has-news : GivesTaking (TakesUnder o latest old) latest old taking → HasNews
   has-news (inl (reads, reaches, last, last_is, goes)) =
       let mark = ap (λ (f : Follower). f.mark) goes.becomes in
       let here : taking.line ≡ line_of old.view.manifest.last_l0_seq (batches_above old.view.manifest.last_l0_seq (old.line.batches ++ goes.added)) =

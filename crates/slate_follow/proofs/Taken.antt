@@ -25,7 +25,7 @@ use Rattle.slate_model.specs.Followed.{RefusesLatest, can_follow, last_read}
 use Rattle.slate_model.specs.Follower.{Follower, HasSegments}
 use Rattle.slate_model.specs.Known.{CountsFaults, IsContent}
 use Rattle.slate_model.specs.Lease.{leased, to_keep, to_take}
-use Rattle.slate_model.specs.Managed.{IsOpenAt, KeepRefusal, Keeps, KeepsLease, KeepsOrNot, PlanCause, PutsPlanned, SeesLatest, TakeRefusal, Takes, TakesLease, follower_under, poll_result, unseen_line}
+use Rattle.slate_model.specs.Managed.{IsOpenAt, KeepRefusal, Keeps, KeepsLease, KeepsOrNot, PlanCause, PutsPlanned, SeesLatest, TakeRefusal, TakesView, TakesLease, follower_under, poll_result, unseen_line}
 use Rattle.slate_model.specs.Segments.{Extractor, ops_of, unsegmented_refusal}
 use Rattle.slate_model.specs.Stores.{Stands, by_objects}
 use Rattle.slate_model.specs.declared.answers.PollAnswer.{PollAnswer}
@@ -112,7 +112,7 @@ module _ (refused : Objects → SlateError → Type 0) (lifetime : ℕ) (skips :
 
   -- what was built of the manifest that it put
   pub takes : (t : Option Objects) → t ≡ Some o → (built new : Follower) (answer : PollAnswer) (lag reach : ℕ) → reach ≡ last_read ManagedCheckpoint skips next o' → Builds o' ManagedCheckpoint skips lag next reach built answer → built.lease ≡ None →
-      new ≡ record built { lease = Some given } → Takes (by_objects t) lifetime skips lag moment o new answer o'
+      new ≡ record built { lease = Some given } → TakesView (by_objects t) lifetime skips lag moment o new answer o'
   takes t at built new answer lag reach reach_is builds bare becomes =
       let plan = leased lifetime (to_write None (Some lifetime) moment is.0) in
       let gives = taken-from lifetime moment is.0 next given is.2 in

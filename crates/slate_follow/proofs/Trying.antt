@@ -22,7 +22,7 @@ use Rattle.slate_model.specs.Stores.{Stands, by_objects}
 use Rattle.slate_model.specs.declared.answers.PollAnswer.{PollAnswer}
 use Rattle.slate_model.specs.declared.leases.Lease.{Lease}
 use Rattle.slate_follow.specs.Keeping.{FindsLatest, MayLack, PutsBy, PutsManifest, Replaces, TakesLatest}
-use Rattle.slate_follow.specs.Takings.{Gives, Taking, installed}
+use Rattle.slate_follow.specs.Takings.{GivesTaking, Taking, installed}
 use Rattle.slate_follow.proofs.Having.{has-news}
 use Rattle.slate_follow.specs.Rebuilding.{TakesUnder, Truncates, answer_of, unleased}
 use Rattle.slate_follow.proofs.Continued.{took-truncates}
@@ -139,9 +139,9 @@ module _ (t : Option Objects) (latest : VersionedManifest) (is : IfSome t (λ o.
 
   -- it has what is new
   module _ (managed : old.mode ≡ ManagedCheckpoint) (open_ : old.result ≡ None) (tasks : old.tasks ≡ follower_tasks old.mode) (floor : old.line.floor ≡ old.view.manifest.last_l0_seq) (same : differs old.view latest ≡ false) (taking : Taking) (answer : PollAnswer)
-      (answers : answer ≡ answer_of taking.replayed (number new)) (t1 : Option Objects) (kept : t1 ≡ t) (takes : IfSome t1 (λ o. Gives (TakesUnder o latest old) latest old taking)) where
-    takes-at : (o : Objects) → t ≡ Some o → Gives (TakesUnder o latest old) latest old taking
-    takes-at o at = some_at (λ o. Gives (TakesUnder o latest old) latest old taking) t1 o (kept ∙ at) takes
+      (answers : answer ≡ answer_of taking.replayed (number new)) (t1 : Option Objects) (kept : t1 ≡ t) (takes : IfSome t1 (λ o. GivesTaking (TakesUnder o latest old) latest old taking)) where
+    takes-at : (o : Objects) → t ≡ Some o → GivesTaking (TakesUnder o latest old) latest old taking
+    takes-at o at = some_at (λ o. GivesTaking (TakesUnder o latest old) latest old taking) t1 o (kept ∙ at) takes
 
     -- and stays at its view
     module _ (becomes : new ≡ record (installed old.view taking old) { lease = new.lease }) (unreplaced : replaces old.view lease moment latest ≡ false) where
@@ -180,7 +180,7 @@ module _ (t : Option Objects) (latest : VersionedManifest) (is : IfSome t (λ o.
 
   -- as it answers
   pub missing-all : old.mode ≡ ManagedCheckpoint → old.result ≡ None → old.tasks ≡ follower_tasks old.mode → old.line.floor ≡ old.view.manifest.last_l0_seq → differs old.view latest ≡ false → (taking : Taking) (t1 : Option Objects) → t1 ≡ t →
-      IfSome t1 (λ o. Gives (TakesUnder o latest old) latest old taking) → replaces old.view lease moment latest ≡ true → (r : Result PollAnswer SlateError) → IfOk r (λ answer. Replaces (replacement old.view latest lease moment) taking old new answer) → {t' : Option Objects} →
+      IfSome t1 (λ o. GivesTaking (TakesUnder o latest old) latest old taking) → replaces old.view lease moment latest ≡ true → (r : Result PollAnswer SlateError) → IfOk r (λ answer. Replaces (replacement old.view latest lease moment) taking old new answer) → {t' : Option Objects} →
       WhereModelled (λ o o'. PutsBy MayLack (replacement old.view latest lease moment) old.lease o r new.lease o') t1 t' → IfOk r (λ answer. WhereModelled (λ o o'. Keeps (by_objects t) lease moment old o new answer o') t t')
   missing-all managed open_ tasks floor same taking t1 kept takes replaced (Err e) became puts = tt
   missing-all managed open_ tasks floor same taking t1 kept takes replaced (Ok answer) became puts = missing-kept managed open_ tasks floor same taking answer became.4 t1 kept takes replaced became puts

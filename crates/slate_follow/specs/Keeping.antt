@@ -23,7 +23,7 @@ use Rattle.slate_model.specs.Segments.{Extractor}
 use Rattle.slate_model.specs.Stores.{Stands, by_objects}
 use Rattle.slate_model.specs.declared.answers.PollAnswer.{PollAnswer}
 use Rattle.slate_model.specs.declared.leases.Lease.{Lease}
-use Rattle.slate_follow.specs.declared.keeps.Kept.{Kept}
+use Rattle.slate_follow.specs.declared.leased_polls.Kept.{Kept}
 use Rattle.slate_follow.specs.Lagging.{IsLastTaken}
 use Rattle.slate_follow.specs.Rebuilding.{Builds, GoingLacks, Reaches, TakesUnder, TakingLacks, answer_of, followed, new_logs, reached}
 use Rattle.slate_follow.specs.Takings.{Taking, installed}

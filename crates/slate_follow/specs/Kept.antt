@@ -25,7 +25,7 @@ follower_of a =
 -- each table in memory has a batch; their batches are numbered from the last number in tables on, and its number is that of the
 -- last one. It has a lease exactly where it keeps a checkpoint of its own. What it reports has no segments of its own.
 -- While it is open, the task of its mode runs; one that has ended was told the result with which it closed.
-pub record IsKept (a : Inside) : Type 0 where
+pub record IsKeptFollower (a : Inside) : Type 0 where
   pub filled : AreFilled a.kept.items
   pub numbered : AreNumberedFrom a.status.manifest.manifest.last_l0_seq (joined a.kept.items)
   pub fits : a.status.manifest.manifest.last_l0_seq + length (joined a.kept.items) < 2 ^ 64

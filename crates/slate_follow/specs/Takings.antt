@@ -43,7 +43,7 @@ abbrev pub HasOwn : Option Extractor → Taking → Type 0
 HasOwn extractor taking = taking.segments ≡ segments_of extractor (batches_above taking.line.floor taking.line.batches)
 
 -- a poll takes this, which makes a reader go by a manifest and answer so
-abbrev pub Gives : (Follower → PollAnswer → Type 0) → VersionedManifest → Follower → Taking → Type 0
-Gives Takes view reader taking =
+abbrev pub GivesTaking : (Follower → PollAnswer → Type 0) → VersionedManifest → Follower → Taking → Type 0
+GivesTaking Takes view reader taking =
     let new = installed view taking reader in
     Takes (unleased new) (answer_of taking.replayed (number new))

@@ -4,22 +4,22 @@
 //! it goes by isn't removed while it polls.
 #![tactic(auto)]
 
-mod arrivals;
 mod closes;
-mod continues;
-mod keeps;
 mod laws;
+mod leased_polls;
 mod leases;
 mod machines;
+mod memory_segments;
+mod new_log_files;
 mod options;
 mod polls;
 mod published;
 mod reads;
 mod rebuilds;
 mod scans;
-mod segments;
-mod stages;
 mod states;
+mod step_answers;
+mod step_calls;
 mod tables;
 mod takings;
 mod tasks;

@@ -7,7 +7,7 @@ ghost use Rattle.slate_reads.specs.Read.{IsOperator, read_at};
 ghost use Rattle.slate_model.specs.Follower.{number};
 ghost use Rattle.slate_model.specs.Known.{known, FaultsRise};
 ghost use Rattle.slate_model.specs.Object.{Follower};
-ghost use Rattle.slate_model.specs.Read.{Reads, ReadsByAny};
+ghost use Rattle.slate_model.specs.Read.{ReadsUnlessClosed, ReadsByAny};
 ghost use Rattle.slate_model.specs.Stores.{kept_rows};
 ghost use Rattle.slate_model.specs.Tables.{AreStored};
 ghost use Rattle.slate_replay.specs.Tables.{IsOfTables};
@@ -41,7 +41,7 @@ impl FollowerState {
         operator: Option<&M>,
     ) -> Result<Option<KeyValue>, SlateError>
         ensures read { (merge : Option Merge) → IsOperator M.may_answer (option_copied operator.entry) merge →
-            Reads self.now.result self.now.view.manifest.tables (kept_rows (S.objects store.old) (Follower self.now))
+            ReadsUnlessClosed self.now.result self.now.view.manifest.tables (kept_rows (S.objects store.old) (Follower self.now))
             (λ rows answer. answer ≡ read_at merge rows (Some (number self.now)) key.now)
             (known S.objects S.faults store.old) result (known S.objects S.faults store.new) }
         ensures by_any { ReadsByAny self.now.result self.now.view.manifest.tables (known S.objects S.faults store.old) result (known S.objects S.faults store.new) }

@@ -5,7 +5,7 @@ ghost use Rattle.slate_types.specs.Operator.{Merge};
 ghost use Rattle.slate_reads.specs.Read.{IsOperator};
 ghost use Rattle.slate_model.specs.Known.{known};
 ghost use Rattle.slate_model.specs.Object.{Follower};
-ghost use Rattle.slate_model.specs.Read.{Gives, Reads, ReadsByAny};
+ghost use Rattle.slate_model.specs.Read.{Gives, ReadsUnlessClosed, ReadsByAny};
 ghost use Rattle.slate_model.specs.Stores.{kept_rows};
 ghost use Rattle.slate_follow.specs.Scanned.{BeginsFrontOf, BeginsScanOf};
 
@@ -39,7 +39,7 @@ impl FollowerState {
         operator: Option<&M>,
     ) -> Result<DbIterator, SlateError>
         ensures scan { (merge : Option Merge) → IsOperator M.may_answer (option_copied operator.entry) merge →
-            Reads self.now.result self.now.view.manifest.tables (kept_rows (S.objects store.old) (Follower self.now))
+            ReadsUnlessClosed self.now.result self.now.view.manifest.tables (kept_rows (S.objects store.old) (Follower self.now))
             (Gives (BeginsScanOf self.now merge range.now order))
             (known S.objects S.faults store.old) result (known S.objects S.faults store.new) }
         ensures by_any { ReadsByAny self.now.result self.now.view.manifest.tables (known S.objects S.faults store.old) result (known S.objects S.faults store.new) }
@@ -78,7 +78,7 @@ impl FollowerState {
         operator: Option<&M>,
     ) -> Result<DbIterator, SlateError>
         ensures scan { (merge : Option Merge) → IsOperator M.may_answer (option_copied operator.entry) merge →
-            Reads self.now.result self.now.view.manifest.tables (kept_rows (S.objects store.old) (Follower self.now))
+            ReadsUnlessClosed self.now.result self.now.view.manifest.tables (kept_rows (S.objects store.old) (Follower self.now))
             (Gives (BeginsFrontOf self.now merge range.now order limit))
             (known S.objects S.faults store.old) result (known S.objects S.faults store.new) }
         ensures by_any { ReadsByAny self.now.result self.now.view.manifest.tables (known S.objects S.faults store.old) result (known S.objects S.faults store.new) }

@@ -71,11 +71,11 @@ impl Model for FollowerState {
 
     ghost Value = { Follower };
 
-    ghost use Rattle.slate_follow.specs.Kept.{follower_of, IsKept};
+    ghost use Rattle.slate_follow.specs.Kept.{follower_of, IsKeptFollower};
 
     ghost view = { follower_of };
 
-    ghost invariant = { IsKept };
+    ghost invariant = { IsKeptFollower };
 }
 
 impl FollowerState {

@@ -11,8 +11,8 @@ ghost use Rattle.slate_follow.specs.Joined.{joined};
 ghost use Rattle.slate_follow.specs.Rebuilding.{Lacks, answer_of};
 ghost use Rattle.slate_follow.specs.Takings.{HasOwn, installed};
 
+use crate::memory_segments::{segments_in, with_segments};
 use crate::rebuilds::answer_of;
-use crate::segments::{segments_in, with_segments};
 use crate::tables::{add_table, join_newest, list_of, tables_above};
 use crate::{FollowerState, PollAnswer};
 use bytes::Bytes;

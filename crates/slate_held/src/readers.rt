@@ -14,7 +14,7 @@ ghost use Rattle.slate_model.specs.Known.{FaultsRise, IsContent, known};
 ghost use Rattle.slate_model.specs.Managed.{ClosesManaged, OpensManaged, PollsManaged};
 ghost use Rattle.slate_model.specs.Object.{Follower};
 ghost use Rattle.slate_model.specs.Open.{replayed_logs};
-ghost use Rattle.slate_model.specs.Read.{Gives, Reads, ReadsByAny};
+ghost use Rattle.slate_model.specs.Read.{Gives, ReadsUnlessClosed, ReadsByAny};
 ghost use Rattle.slate_model.specs.Segments.{Extractor, IsExtractor};
 ghost use Rattle.slate_model.specs.Status.{follower_status};
 ghost use Rattle.slate_model.specs.Stores.{by_objects, kept_rows, kept_seen};
@@ -123,7 +123,7 @@ impl<S: Store> HeldReader<S> {
         operator: Option<&M>,
     ) -> Result<Option<KeyValue>, SlateError>
         ensures read { (merge : Option Merge) → IsOperator M.may_answer (option_copied operator.entry) merge →
-            Reads self.old.follower.result self.old.follower.view.manifest.tables (kept_rows (S.objects self.old.store) (Follower self.old.follower))
+            ReadsUnlessClosed self.old.follower.result self.old.follower.view.manifest.tables (kept_rows (S.objects self.old.store) (Follower self.old.follower))
             (λ rows answer. answer ≡ read_at merge rows (Some (number self.old.follower)) key.now)
             (known S.objects S.faults self.old.store) result (known S.objects S.faults self.new.store) }
         ensures by_any { ReadsByAny self.old.follower.result self.old.follower.view.manifest.tables (known S.objects S.faults self.old.store) result (known S.objects S.faults self.new.store) }
@@ -144,7 +144,7 @@ impl<S: Store> HeldReader<S> {
         operator: Option<&M>,
     ) -> Result<DbIterator, SlateError>
         ensures scan { (merge : Option Merge) → IsOperator M.may_answer (option_copied operator.entry) merge →
-            Reads self.old.follower.result self.old.follower.view.manifest.tables (kept_rows (S.objects self.old.store) (Follower self.old.follower))
+            ReadsUnlessClosed self.old.follower.result self.old.follower.view.manifest.tables (kept_rows (S.objects self.old.store) (Follower self.old.follower))
             (Gives (BeginsScanOf self.old.follower merge range.now order))
             (known S.objects S.faults self.old.store) result (known S.objects S.faults self.new.store) }
         ensures by_any { ReadsByAny self.old.follower.result self.old.follower.view.manifest.tables (known S.objects S.faults self.old.store) result (known S.objects S.faults self.new.store) }
@@ -167,7 +167,7 @@ impl<S: Store> HeldReader<S> {
         operator: Option<&M>,
     ) -> Result<DbIterator, SlateError>
         ensures scan { (merge : Option Merge) → IsOperator M.may_answer (option_copied operator.entry) merge →
-            Reads self.old.follower.result self.old.follower.view.manifest.tables (kept_rows (S.objects self.old.store) (Follower self.old.follower))
+            ReadsUnlessClosed self.old.follower.result self.old.follower.view.manifest.tables (kept_rows (S.objects self.old.store) (Follower self.old.follower))
             (Gives (BeginsFrontOf self.old.follower merge range.now order limit))
             (known S.objects S.faults self.old.store) result (known S.objects S.faults self.new.store) }
         ensures by_any { ReadsByAny self.old.follower.result self.old.follower.view.manifest.tables (known S.objects S.faults self.old.store) result (known S.objects S.faults self.new.store) }

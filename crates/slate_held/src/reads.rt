@@ -7,7 +7,7 @@ ghost use Rattle.slate_reads.specs.Read.{IsOperator, read_at};
 ghost use Rattle.slate_model.specs.Handle.{accepted};
 ghost use Rattle.slate_model.specs.Known.{known};
 ghost use Rattle.slate_model.specs.Object.{Handle};
-ghost use Rattle.slate_model.specs.Read.{Gives, Reads, ReadsByAny};
+ghost use Rattle.slate_model.specs.Read.{Gives, ReadsUnlessClosed, ReadsByAny};
 ghost use Rattle.slate_model.specs.Recency.{ScansByRecency};
 ghost use Rattle.slate_model.specs.Snapshot.{snapshot_number};
 ghost use Rattle.slate_model.specs.Stores.{kept_rows};
@@ -38,7 +38,7 @@ impl<S: Store> Held<S> {
         operator: Option<&M>,
     ) -> Result<Option<KeyValue>, SlateError>
         ensures read { (merge : Option Merge) → IsOperator M.may_answer (option_copied operator.entry) merge →
-            Reads self.old.handle.result self.old.handle.view.manifest.tables (kept_rows (S.objects self.old.store) (Handle self.old.handle))
+            ReadsUnlessClosed self.old.handle.result self.old.handle.view.manifest.tables (kept_rows (S.objects self.old.store) (Handle self.old.handle))
             (λ rows answer. answer ≡ read_at merge rows (read_bound snapshot self.old.handle.durable (accepted self.old.handle) options.now.durability_filter options.now.dirty) key.now)
             (known S.objects S.faults self.old.store) result (known S.objects S.faults self.new.store) }
         ensures by_any { ReadsByAny self.old.handle.result self.old.handle.view.manifest.tables (known S.objects S.faults self.old.store) result (known S.objects S.faults self.new.store) }
@@ -61,7 +61,7 @@ impl<S: Store> Held<S> {
         operator: Option<&M>,
     ) -> Result<DbIterator, SlateError>
         ensures scan { (merge : Option Merge) → IsOperator M.may_answer (option_copied operator.entry) merge →
-            Reads self.old.handle.result self.old.handle.view.manifest.tables (kept_rows (S.objects self.old.store) (Handle self.old.handle))
+            ReadsUnlessClosed self.old.handle.result self.old.handle.view.manifest.tables (kept_rows (S.objects self.old.store) (Handle self.old.handle))
             (Gives (BeginsScanOf self.old.handle merge snapshot options.now range.now))
             (known S.objects S.faults self.old.store) result (known S.objects S.faults self.new.store) }
         ensures by_any { ReadsByAny self.old.handle.result self.old.handle.view.manifest.tables (known S.objects S.faults self.old.store) result (known S.objects S.faults self.new.store) }
@@ -84,7 +84,7 @@ impl<S: Store> Held<S> {
         operator: Option<&M>,
     ) -> Result<DbIterator, SlateError>
         ensures scan { (merge : Option Merge) → IsOperator M.may_answer (option_copied operator.entry) merge →
-            Reads self.old.handle.result self.old.handle.view.manifest.tables (kept_rows (S.objects self.old.store) (Handle self.old.handle))
+            ReadsUnlessClosed self.old.handle.result self.old.handle.view.manifest.tables (kept_rows (S.objects self.old.store) (Handle self.old.handle))
             (Gives (BeginsFrontOf limit self.old.handle merge None options.now range.now))
             (known S.objects S.faults self.old.store) result (known S.objects S.faults self.new.store) }
         ensures by_any { ReadsByAny self.old.handle.result self.old.handle.view.manifest.tables (known S.objects S.faults self.old.store) result (known S.objects S.faults self.new.store) }

@@ -8,7 +8,7 @@ ghost use Rattle.slate_rows.specs.Scan.{BeginsScan};
 ghost use Rattle.slate_transactions.specs.Own.{adding};
 ghost use Rattle.slate_model.specs.Known.{known};
 ghost use Rattle.slate_model.specs.Object.{Handle};
-ghost use Rattle.slate_model.specs.Read.{Gives, Reads, ReadsByAny};
+ghost use Rattle.slate_model.specs.Read.{Gives, ReadsUnlessClosed, ReadsByAny};
 ghost use Rattle.slate_model.specs.Segments.{Extractor, IsExtractor};
 ghost use Rattle.slate_model.specs.Snapshot.{unless_closed};
 ghost use Rattle.slate_model.specs.Stores.{kept_rows};
@@ -51,7 +51,7 @@ impl<S: Store> Held<S> {
         operator: Option<&M>,
     ) -> Result<Option<KeyValue>, SlateError>
         ensures read { (merge : Option Merge) → IsOperator M.may_answer (option_copied operator.entry) merge →
-            Reads self.old.handle.result self.old.handle.view.manifest.tables (kept_rows (S.objects self.old.store) (Handle self.old.handle))
+            ReadsUnlessClosed self.old.handle.result self.old.handle.view.manifest.tables (kept_rows (S.objects self.old.store) (Handle self.old.handle))
             (λ rows answer. answer ≡ read_at merge (seen_by transaction.old (start_bound transaction.old self.old.handle options.now.durability_filter options.now.dirty) rows) None key.now)
             (known S.objects S.faults self.old.store) result (known S.objects S.faults self.new.store) }
         ensures by_any { ReadsByAny self.old.handle.result self.old.handle.view.manifest.tables (known S.objects S.faults self.old.store) result (known S.objects S.faults self.new.store) }
@@ -76,7 +76,7 @@ impl<S: Store> Held<S> {
         operator: Option<&M>,
     ) -> Result<DbIterator, SlateError>
         ensures scan { (merge : Option Merge) → IsOperator M.may_answer (option_copied operator.entry) merge →
-            Reads self.old.handle.result self.old.handle.view.manifest.tables (kept_rows (S.objects self.old.store) (Handle self.old.handle))
+            ReadsUnlessClosed self.old.handle.result self.old.handle.view.manifest.tables (kept_rows (S.objects self.old.store) (Handle self.old.handle))
             (Gives (λ rows it. BeginsScan merge (seen_by transaction.old (start_bound transaction.old self.old.handle options.now.durability_filter options.now.dirty) rows) None range.now options.now.order it))
             (known S.objects S.faults self.old.store) result (known S.objects S.faults self.new.store) }
         ensures by_any { ReadsByAny self.old.handle.result self.old.handle.view.manifest.tables (known S.objects S.faults self.old.store) result (known S.objects S.faults self.new.store) }

@@ -14,7 +14,7 @@ use Rattle.slate_jobs.specs.declared.jobs.JobOp.{JobOp}
 use Rattle.slate_jobs.specs.declared.jobs.JobRefusal.{JobRefusal}
 use Rattle.slate_jobs.specs.declared.jobs.JobRefusal.TheVariants as refusals
 use Rattle.slate_jobs.specs.declared.jobs.JobReply.{JobReply}
-use Rattle.slate_jobs.specs.Calls.{Calls, Leaves, RefusesBatch, Stands, Stores, Takes, failing_by, refused_by}
+use Rattle.slate_jobs.specs.Calls.{Calls, Leaves, RefusesBatch, Stands, Stores, TakesRequest, failing_by, refused_by}
 use Rattle.slate_jobs.specs.Machine.{kept_reply, stepped}
 use Rattle.slate_jobs.specs.Queue.{IsCurrent, IsHeld, Queue, error_of, failing, refusal_of}
 use Rattle.slate_jobs.specs.Rows.{Holds}
@@ -60,7 +60,7 @@ module _ (request : ℕ) (op : JobOp) (moment : ℤ) (old : Queue) where
     batch-calls new refusal free why = refused-calls new refusal (batch-leaves new refusal free why)
 
     -- a request that is taken
-    module _ (mid : Queue) (takes : Takes request op moment old mid) where
+    module _ (mid : Queue) (takes : TakesRequest request op moment old mid) where
       pub took-machine : mid.machine ≡ stepped old.machine request op moment
       took-machine = elim takes [
         | inl kept ↦ ap (λ (q : Queue). q.machine) kept.2 ∙ sym (steps-kept old.machine request op moment kept.0 kept.1)

@@ -28,7 +28,7 @@ use Rattle.slate_jobs.specs.declared.jobs.JobRefusal.TheVariants as refusals
 use Rattle.slate_jobs.specs.declared.jobs.JobReply.{JobReply}
 use Rattle.slate_jobs.specs.declared.jobs.JobState.{JobState}
 use Rattle.slate_jobs.specs.declared.jobs.JobState.TheVariants.{Waiting, Claimed, Done}
-use Rattle.slate_jobs.specs.Calls.{Accepts, Leaves, MayStep, RefusesBatch, Stores, Takes, failing_by, puts_for, refused_by}
+use Rattle.slate_jobs.specs.Calls.{Accepts, Leaves, MayStep, RefusesBatch, Stores, TakesRequest, failing_by, puts_for, refused_by}
 use Rattle.slate_jobs.specs.Machine.{Machine, after, claim_at, jobs_after, claim_of, completion_by, completion_of, effect_of, first_claimable, kept_reply, stepped, stepped_by}
 use Rattle.slate_jobs.specs.Queue.{IsCurrent, IsHeld, IsInStep, Queue, failing, failure_of, refusal_of}
 use Rattle.slate_jobs.specs.Rows.{Holds, puts_of}
@@ -257,7 +257,7 @@ module _ (request : ℕ) (op : JobOp) (moment : ℤ) (q q' : Queue) where
   short-errs (Err refusal) is live same = short-refuses live same refusal is
 
   -- a request that had no reply
-  pub takes-new : (result : Result (Unit {0}) JobRefusal) → kept_reply q.machine request ≡ None → OnOk result (Accepts request op moment q q') → OnOk result (Takes request op moment q q')
+  pub takes-new : (result : Result (Unit {0}) JobRefusal) → kept_reply q.machine request ≡ None → OnOk result (Accepts request op moment q q') → OnOk result (TakesRequest request op moment q q')
   takes-new (Ok x) free accepts = inr (free, accepts)
   takes-new (Err e) free accepts = tt
 

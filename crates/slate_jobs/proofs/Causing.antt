@@ -29,7 +29,7 @@ use Rattle.slate_jobs.specs.declared.jobs.JobOp.{JobOp}
 use Rattle.slate_jobs.specs.declared.jobs.JobRefusal.{JobRefusal}
 use Rattle.slate_jobs.specs.declared.jobs.JobRefusal.TheVariants as refusals
 use Rattle.slate_jobs.specs.declared.jobs.JobReply.{JobReply}
-use Rattle.slate_jobs.specs.Calls.{RefusesBatch, Stores, Takes, failing_by, puts_for, refused_by}
+use Rattle.slate_jobs.specs.Calls.{RefusesBatch, Stores, TakesRequest, failing_by, puts_for, refused_by}
 use Rattle.slate_jobs.specs.Causes.{IsCallCause, IsCallRefusal, IsReady, TakesBatches}
 use Rattle.slate_jobs.specs.Queue.{Queue, refusal_of}
 use Rattle.slate_jobs.specs.Rows.{job_puts, put, puts_of, reply_key, reply_value}
@@ -138,11 +138,11 @@ abbrev written-takes : (h : Handle) (ops : List KeyOp) (at : ℤ) → TakesBatch
 written-takes h ops at takes = record { unclosed = takes.unclosed; logs = takes.logs; unlimited = takes.unlimited }
 
 module _ (request : ℕ) (op : JobOp) (moment : ℤ) (old mid : Queue) (ready : IsReady old) where
-  pub took-ready : Takes request op moment old mid → IsReady mid
+  pub took-ready : TakesRequest request op moment old mid → IsReady mid
   took-ready (inl kept) = subst IsReady (sym kept.2) ready
   took-ready (inr new) = record { live = new.1.failure; handle = subst TakesBatches (sym new.1.handle.1) (written-takes old.handle (puts_for request op moment old) new.1.handle.0 ready.handle) }
 
-  pub took-epoch : Takes request op moment old mid → mid.handle.epoch ≡ old.handle.epoch
+  pub took-epoch : TakesRequest request op moment old mid → mid.handle.epoch ≡ old.handle.epoch
   took-epoch (inl kept) = ap (λ (q : Queue). q.handle.epoch) kept.2
   took-epoch (inr new) = ap (λ (h : Handle). h.epoch) new.1.handle.1
 

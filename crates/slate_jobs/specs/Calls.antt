@@ -73,8 +73,8 @@ pub record Accepts (request : ℕ) (op : JobOp) (moment : ℤ) (old new : Queue)
   pub failure : new.failure ≡ None
 
 -- a request is taken: it has a reply, or it is accepted
-abbrev pub Takes : (request : ℕ) → JobOp → (moment : ℤ) → Queue → Queue → Type 0
-Takes request op moment old new =
+abbrev pub TakesRequest : (request : ℕ) → JobOp → (moment : ℤ) → Queue → Queue → Type 0
+TakesRequest request op moment old new =
     ((reply : JobReply) × (kept_reply old.machine request ≡ Some reply) × (new ≡ old))
     ⊎ ((kept_reply old.machine request ≡ None) × Accepts request op moment old new)
 

@@ -14,7 +14,7 @@ ghost use Rattle.slate_model.specs.Object.{Handle as AHandle};
 ghost use Rattle.slate_model.specs.Stores.{kept_rows};
 ghost use Rattle.slate_model.specs.Write.{write_refusal, written};
 ghost use Rattle.slate_jobs.specs.declared.jobs.JobReply.{JobReply as AReply};
-ghost use Rattle.slate_jobs.specs.Calls.{Accepts, Calls, RefusesBatch, Stands, Stores, Takes};
+ghost use Rattle.slate_jobs.specs.Calls.{Accepts, Calls, RefusesBatch, Stands, Stores, TakesRequest};
 ghost use Rattle.slate_jobs.specs.Causes.{IsCallRefusal, IsReady, IsScanRefusal, OpensFor, TakesBatches};
 ghost use Rattle.slate_jobs.specs.Machine.{Machine as AMachine, kept_reply};
 ghost use Rattle.slate_jobs.specs.Rows.{Holds};
@@ -201,7 +201,7 @@ impl JobStore {
         moment: i64,
     ) -> Result<(), JobRefusal>
         requires { self.old.failure ≡ None }
-        ensures taken { OnOk result (Takes request op moment self.old self.new) }
+        ensures taken { OnOk result (TakesRequest request op moment self.old self.new) }
         ensures refused { IfErr result (λ refusal. (kept_reply self.old.machine request ≡ None) × RefusesBatch request op moment self.old self.new refusal) }
     {
         if self.has_reply(request) {

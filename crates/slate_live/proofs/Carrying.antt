@@ -11,7 +11,7 @@ use Rattle.slate_store.specs.declared.refusals.StoreRefusal.TheVariants as refus
 use Rattle.slate_model.specs.Write.{last_number}
 use Rattle.std.specs.Prelude.{nat_lt}
 use Rattle.slate_store.specs.Compaction.{compact_changes_by, with_table}
-use Rattle.slate_store.specs.Content.{AreRising}
+use Rattle.slate_store.specs.Content.{IdsRise}
 use Rattle.slate_store.specs.Objects.{ChangeOf, PutManifest, latest_manifest}
 use Rattle.slate_store.specs.Refusals.{checkpoint_changes, planned as planned_of, planned_after}
 use Rattle.slate_store.specs.Sweeps.{sweep_changes_by, without_expired}
@@ -38,7 +38,7 @@ use Rattle.slate_model.specs.Managed.{OpensManaged, PollsTwice}
 use Rattle.slate_model.proofs.Rounds.{rounds, took}
 use Rattle.slate_model.specs.Object.{Object, Handle as AHandle, Snapshot as ASnapshot, Follower as AFollower}
 use Rattle.slate_model.specs.Open.{next_manifest}
-use Rattle.slate_model.specs.Read.{Reads}
+use Rattle.slate_model.specs.Read.{ReadsUnlessClosed}
 use Rattle.slate_model.specs.Segments.{extractor_name}
 use Rattle.slate_model.specs.Stores.{by_catalogue}
 use Rattle.slate_model.proofs.Carrying.{compact-carries, flush-carries, open-carries, plan-carries, sweep-carries}
@@ -95,7 +95,7 @@ pub record Spares (P : Manifest → Type 0) (w : World) (latest : VersionedManif
   pub closed : (n : ℕ) (f : Follower) (lease : Lease) (next : VersionedManifest) (flush_type : Option FlushType) → target_of command.action ≡ OfObject n → call_of command.action ≡ Close flush_type → slice_get w.objects n ≡ Some (AFollower f) → f.result ≡ None → f.lease ≡ Some lease →
       to_delete lease.id latest ≡ Ok (Some next, tt) → P next.manifest
 
-module _ (P : Manifest → Type 0) (settings : Settings) (w : World) (valid : IsValid w) (latest : VersionedManifest) (rising : AreRising (map (λ e. e.0) w.catalogue.manifests)) (is : latest_manifest w.catalogue ≡ Some latest)
+module _ (P : Manifest → Type 0) (settings : Settings) (w : World) (valid : IsValid w) (latest : VersionedManifest) (rising : IdsRise (map (λ e. e.0) w.catalogue.manifests)) (is : latest_manifest w.catalogue ≡ Some latest)
     (command : Command) (spares : Spares P w latest command) (made : ℕ) (reply : Reply) (s' : State Span) where
   abbrev k : Knowledge Span
   k = by_catalogue w.stored w.catalogue
@@ -141,7 +141,7 @@ module _ (P : Manifest → Type 0) (settings : Settings) (w : World) (valid : Is
       let plan = leased-is lifetime (to_write None (Some lifetime) command.moment latest) (Some next) given (taken-is lifetime command.moment latest (Some next, given) gives) in
       added (Some lifetime) next plan.0 plan.1
 
-  read : {A : Type 0} {has : List Batch → Type 0} {P : List Batch → Result A ReadFault → Type 0} (closed : CloseResult) (tables : List TableId) (r : Result A SlateError) → Reads closed tables has P (state_of w).store r s'.store → Changes
+  read : {A : Type 0} {has : List Batch → Type 0} {P : List Batch → Result A ReadFault → Type 0} (closed : CloseResult) (tables : List TableId) (r : Result A SlateError) → ReadsUnlessClosed closed tables has P (state_of w).store r s'.store → Changes
   read closed tables r s =
       by-option closed
       (λ live. unchanged (s.read live).kept)

@@ -17,7 +17,7 @@ use Rattle.slate_model.specs.Handle.{CloseResult, Handle}
 use Rattle.slate_model.specs.Knowledge.{Knowledge}
 use Rattle.slate_model.specs.Known.{Known, Untouched}
 use Rattle.slate_model.specs.Object.{Object}
-use Rattle.slate_model.specs.Read.{Gives, Reads, ReadsByAny}
+use Rattle.slate_model.specs.Read.{Gives, ReadsUnlessClosed, ReadsByAny}
 use Rattle.slate_model.specs.Segments.{Extractor}
 use Rattle.slate_model.specs.Write.{Writes, WritesByAny, closed_refusal}
 use Rattle.slate_model.specs.declared.answers.PollAnswer.{PollAnswer}
@@ -30,18 +30,18 @@ use Rattle.slate_live.specs.Calls.{asks_extractor, named, read_by, target_of}
 use Rattle.slate_live.specs.declared.targets.Target.TheVariants.{NewFollower, NewHandle}
 use Rattle.slate_live.specs.Followers.{PollsAs, PollsFollower}
 use Rattle.slate_live.specs.Replies.{polled_reply, reply_to}
-use Rattle.slate_live.specs.Scans.{IsTaken, Takes}
+use Rattle.slate_live.specs.Scans.{IsTaken, AnswersTaken}
 use Rattle.slate_live.proofs.Cases.{some-of}
 
 -- a read of what may be closed
 pub either-reads : {L A : Type 0} {tables : List TableId} {has_rows : List Batch → Type 0} {is_plain : List Batch → Result A ReadFault → Type 0} {before after : Known L} {answer : Result A SlateError} (closed : CloseResult) →
-    (closed ≡ None → Reads closed tables has_rows is_plain before answer after) → ReadsByAny closed tables before answer after → Reads closed tables has_rows is_plain before answer after
+    (closed ≡ None → ReadsUnlessClosed closed tables has_rows is_plain before answer after) → ReadsByAny closed tables before answer after → ReadsUnlessClosed closed tables has_rows is_plain before answer after
 either-reads None open_ any = open_ refl
 either-reads (Some r) open_ any = record { closed = any.closed; read = λ no. absurd (cc) }
 
 -- what is taken of a scan, and its reply
 pub taken-of : {L : Type 0} {closed : CloseResult} {tables : List TableId} {has_rows : List Batch → Type 0} {is_scan : List Batch → Iteration → Type 0} {taken : Iteration → Result (List KeyValue) SlateError} {before after : Known L} (scan : Result Iteration SlateError) (result : Result (List KeyValue) SlateError) (reply : Reply) →
-    Reads closed tables has_rows (Gives is_scan) before scan after → Takes taken scan result → reply ≡ reply_to replies.Rows result → IsTaken closed tables has_rows is_scan taken before reply after
+    ReadsUnlessClosed closed tables has_rows (Gives is_scan) before scan after → AnswersTaken taken scan result → reply ≡ reply_to replies.Rows result → IsTaken closed tables has_rows is_scan taken before reply after
 taken-of scan result reply scans takes replied = record { scan = scan; result = result; scans = scans; takes = takes; replied = replied }
 
 first-refusal : (r : Result (Unit {0}) CloseFault) (q : CloseResult) (rest : Option SlateError) → q ≡ Some r → option_or (closed_refusal q) rest ≡ Some (closed_error r)

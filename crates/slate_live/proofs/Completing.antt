@@ -76,7 +76,7 @@ use Rattle.slate_live.specs.Followers.{ClosesAs, FollowerActs, PollsAs}
 use Rattle.slate_live.specs.Handles.{HandleActs, MergesTo, WritesTo, flush_type_by, pending_reply}
 use Rattle.slate_live.specs.Replies.{AnswersStatus, IsRead, closed_reply, ended_reply, follower_closed_reply, follower_ended_reply, followed_reply, found_reply, polled_reply, refusal, reply_to}
 use Rattle.slate_live.specs.Represents.{AreInSegments, IsLeased, IsValid}
-use Rattle.slate_live.specs.Scans.{IsTaken, Takes, scanned, sought}
+use Rattle.slate_live.specs.Scans.{IsTaken, AnswersTaken, scanned, sought}
 use Rattle.slate_live.specs.Settings.{Settings}
 use Rattle.slate_live.specs.Valid.{AtHandle, AtObject, CanAsk, CanAskFollower, CanAskSnapshot, CanCheckpoint, CanClose, CanCompact, CanEnd, CanFollow, CanOpen, CanPoll, CanPut, CanRead, CanRefresh, CanRenew, CanReplay, CanStore, CanSweep, CanTake, CanWrite, IsDurable, IsOkOrNoMemory, IsValidAt, IsValidKind}
 use Rattle.slate_live.specs.World.{NextWhole, World, state_of}
@@ -262,7 +262,7 @@ read-completes done ok w w' closed tables plain rows reply stored alone can r ca
     (answers-free (λ xs answer. answer ≡ plain xs) rows r.result alone (λ fault wrong. ok-err (plain rows) can.1 fault (sym can.2) (sym wrong)) (unfaulted w w' tables r.result stored reads calm) reads.plain))
 
 -- what is taken of a scan that answers is refused nothing
-taken-free : {has_rows : List Batch → Type 0} (is_scan : List Batch → Iteration → Type 0) (taken : Iteration → Result (List KeyValue) SlateError) (rows : List Batch) (scan : Result Iteration SlateError) (result : Result (List KeyValue) SlateError) → ((others : List Batch) → has_rows others → others ≡ rows) → ((it : Iteration) → is_scan rows it → (found : List KeyValue) × (taken it ≡ Ok found)) → ((fault : StoreFault) → scan ≡ Err (errors.ObjectStoreError fault) → ⊥) → AnswersRead has_rows (Gives is_scan) scan → Takes taken scan result → IsFree result
+taken-free : {has_rows : List Batch → Type 0} (is_scan : List Batch → Iteration → Type 0) (taken : Iteration → Result (List KeyValue) SlateError) (rows : List Batch) (scan : Result Iteration SlateError) (result : Result (List KeyValue) SlateError) → ((others : List Batch) → has_rows others → others ≡ rows) → ((it : Iteration) → is_scan rows it → (found : List KeyValue) × (taken it ≡ Ok found)) → ((fault : StoreFault) → scan ≡ Err (errors.ObjectStoreError fault) → ⊥) → AnswersRead has_rows (Gives is_scan) scan → AnswersTaken taken scan result → IsFree result
 taken-free is_scan taken rows (Ok it) result alone can stored plain (inl memory) = subst IsFree (sym memory) refl
 taken-free is_scan taken rows (Ok it) result alone can stored plain (inr all) =
     let c = can it (subst (λ xs. is_scan xs it) (alone plain.0 plain.1) plain.2) in

@@ -5,7 +5,7 @@ use Rattle.std.proofs.lemmas.List.{append-nil}
 use Rattle.slate_store.specs.Changes.{after_part}
 use Rattle.slate_store.specs.Checkpoints.{Plan, checkpoint_id}
 use Rattle.slate_store.specs.Refusals.{checkpoint_changes}
-use Rattle.slate_store.specs.Content.{AreRising}
+use Rattle.slate_store.specs.Content.{IdsRise}
 use Rattle.slate_store.specs.Objects.{latest_manifest}
 use Rattle.slate_store.specs.declared.objects.VersionedManifest.{VersionedManifest}
 use Rattle.slate_store.specs.declared.reader_modes.DbReaderMode.{DbReaderMode}
@@ -73,7 +73,7 @@ pub record NewLease (w : World) (command : Command) (s' : State Span) (n : ℕ) 
 err-of : {A : Type 0} (r : Result A SlateError) (e : SlateError) (P : SlateError → Type 0) → r ≡ Err e → IfErr r P → P e
 err-of {A} r e P is h = subst (λ x. IfErr x P) is h
 
-module _ (settings : Settings) (w : World) (valid : IsValid w) (rising : AreRising (map (λ e. e.0) w.catalogue.manifests)) (command : Command) (made : ℕ) (reply : Reply) (s' : State Span) where
+module _ (settings : Settings) (w : World) (valid : IsValid w) (rising : IdsRise (map (λ e. e.0) w.catalogue.manifests)) (command : Command) (made : ℕ) (reply : Reply) (s' : State Span) where
   abbrev k : Knowledge Span
   k = by_catalogue w.stored w.catalogue
 

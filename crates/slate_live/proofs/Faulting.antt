@@ -28,7 +28,7 @@ use Rattle.slate_model.specs.Lease.{lease_refusal}
 use Rattle.slate_follow.proofs.Taken.{counts-on}
 use Rattle.slate_model.specs.Managed.{OpensManaged}
 use Rattle.slate_model.specs.Object.{Object, Handle as AHandle, Snapshot as ASnapshot, Follower as AFollower}
-use Rattle.slate_model.specs.Read.{Reads}
+use Rattle.slate_model.specs.Read.{ReadsUnlessClosed}
 use Rattle.slate_model.specs.Stores.{by_catalogue}
 use Rattle.slate_script.specs.declared.commands.Command.{Command}
 use Rattle.slate_script.specs.declared.replies.Reply.{Reply}
@@ -42,7 +42,7 @@ use Rattle.slate_live.specs.Followers.{ClosesAs, FollowerActs, PollsAs}
 use Rattle.slate_live.specs.Handles.{HandleActs}
 use Rattle.slate_live.specs.Replies.{IsRead, closed_reply, follower_ended_reply, polled_reply, refusal, reply_to}
 use Rattle.slate_live.specs.Represents.{IsValid}
-use Rattle.slate_live.specs.Scans.{IsTaken, Takes}
+use Rattle.slate_live.specs.Scans.{IsTaken, AnswersTaken}
 use Rattle.slate_live.specs.Settings.{Settings}
 use Rattle.slate_live.specs.State.{State}
 use Rattle.slate_live.specs.Valid.{IsStoreFault}
@@ -72,7 +72,7 @@ shows done faults faults' (Ok x) reply stays replied = inl stays
 shows done faults faults' (Err e) reply stays replied = shows-refusal faults faults' e reply stays replied
 
 -- what is taken of a scan
-shows-taken : (taken : Iteration → Result (List KeyValue) SlateError) (faults faults' : ℕ) (scan : Result Iteration SlateError) (r : Result (List KeyValue) SlateError) (reply : Reply) → KeepsFaults unavailable faults faults' scan → Takes taken scan r → reply ≡ reply_to replies.Rows r → Shows faults faults' reply
+shows-taken : (taken : Iteration → Result (List KeyValue) SlateError) (faults faults' : ℕ) (scan : Result Iteration SlateError) (r : Result (List KeyValue) SlateError) (reply : Reply) → KeepsFaults unavailable faults faults' scan → AnswersTaken taken scan r → reply ≡ reply_to replies.Rows r → Shows faults faults' reply
 shows-taken taken faults faults' (Ok it) r reply stays takes replied = inl stays
 shows-taken taken faults faults' (Err e) r reply stays takes replied = shows-refusal faults faults' e reply stays (replied ∙ ap (reply_to replies.Rows) takes)
 
@@ -116,7 +116,7 @@ module _ (settings : Settings) (w : World) (valid : IsValid w) (command : Comman
   uncalled : {A : Type 0} (r : Result A SlateError) → s'.store ≡ before → Stays r
   uncalled r same = same-count w.faults s'.store.faults r (count-same same)
 
-  read : {A : Type 0} {has : List Batch → Type 0} {P : List Batch → Result A ReadFault → Type 0} (closed : CloseResult) (tables : List TableId) (r : Result A SlateError) → Reads closed tables has P before r s'.store → Stays r
+  read : {A : Type 0} {has : List Batch → Type 0} {P : List Batch → Result A ReadFault → Type 0} (closed : CloseResult) (tables : List TableId) (r : Result A SlateError) → ReadsUnlessClosed closed tables has P before r s'.store → Stays r
   read closed tables r s =
       by-option closed
       (λ live. ((s.read live).faults).stays)

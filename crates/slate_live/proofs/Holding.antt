@@ -9,7 +9,7 @@ use Rattle.std.specs.Bool.{MatchBool}
 use Rattle.slate_store.proofs.Latest.{its-objects}
 use Rattle.slate_store.specs.Changes.{after_part}
 use Rattle.slate_store.specs.Checkpoints.{checkpoint_id, found, has_id, is_expired, last_moment, lease_end, new_checkpoint, Plan, refreshed, to_end, to_refresh, to_write, with_checkpoints, without_id}
-use Rattle.slate_store.specs.Content.{AreRising, IsPinned}
+use Rattle.slate_store.specs.Content.{IdsRise, IsPinned}
 use Rattle.slate_store.specs.Objects.{PutManifest, changed, entry_at, latest_manifest}
 use Rattle.slate_store.proofs.Entries.{apart as ids-apart, lookup-insert_other, lookup-insert_same}
 use Rattle.std.proofs.lemmas.Cmp.{nat_cmp_total}
@@ -172,7 +172,7 @@ module _ (settings : Settings) (w w' : World) (command : Command) (reply : Reply
     abbrev plan : VersionedManifest → Plan Lease
     plan = to_keep h.follower.view h.lease command.moment
 
-    its_rising : AreRising (map (λ e. e.0) w.catalogue.manifests)
+    its_rising : IdsRise (map (λ e. e.0) w.catalogue.manifests)
     its_rising = rising settings w w' command reply reached reached' next
 
     puts : Recheckpoints latest (plan latest)

@@ -35,7 +35,7 @@ use Rattle.slate_live.proofs.Naming.{follower-did, handle-acted}
 use Rattle.slate_live.specs.Calls.{Call, Write as WriteCall, Merge as MergeCall, Flush, Refresh, Compact, Get, Scan, Seek, Close, Poll, Status, FindTime, FindNumber, Nothing, call_of, at_snapshot, target_of}
 use Rattle.slate_live.specs.declared.targets.Target.{Target}
 use Rattle.slate_live.specs.declared.targets.Target.TheVariants.{NewHandle, NewSnapshot, NewFollower, NewCheckpoint, WholeStore, OfWrite, OfObject}
-use Rattle.slate_live.specs.Commands.{ActsAt, ActsOn, Adds, DoesBy, OnlyAnswers, OpensSnapshot, ReadsSnapshot, asked_reply, write_reply}
+use Rattle.slate_live.specs.Commands.{ActsAt, ActsOn, AddsObject, DoesBy, OnlyAnswers, OpensSnapshot, ReadsSnapshot, asked_reply, write_reply}
 use Rattle.slate_live.specs.Confirmed.{StandsIn}
 use Rattle.slate_live.specs.Followers.{FollowerActs}
 use Rattle.slate_live.specs.Handles.{HandleActs, MergesTo, noted, pending_reply}
@@ -270,7 +270,7 @@ module _ (settings : Settings) (w w' : World) (command : Command) (made : ℕ) (
   opened-keeps n (Some (AFollower f)) d = only-keeps _ tt d
   opened-keeps n None d = only-keeps _ tt d
 
-  followed-keeps : (did : Known Span → Result (Follower × PollAnswer) SlateError → Known Span → Type 0) → Adds did (λ (b : Follower × PollAnswer). AFollower b.0) (λ n (b : Follower × PollAnswer). followed_reply n b.1) (state_of w) reply (state_of w') → Keeps w.objects w.writes reply w'.objects w'.writes
+  followed-keeps : (did : Known Span → Result (Follower × PollAnswer) SlateError → Known Span → Type 0) → AddsObject did (λ (b : Follower × PollAnswer). AFollower b.0) (λ n (b : Follower × PollAnswer). followed_reply n b.1) (state_of w) reply (state_of w') → Keeps w.objects w.writes reply w'.objects w'.writes
   followed-keeps did d =
       keeps-by w.objects w'.objects rise w.writes w'.writes reply d.writes (numbers-by w'.writes d.replied (numbers-to w'.writes _ d.result (λ (b : Follower × PollAnswer). numbers-followed w'.writes (length w.objects) b.1)))
 

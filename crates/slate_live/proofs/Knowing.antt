@@ -35,7 +35,7 @@ use Rattle.slate_model.specs.Follower.{Follower, is_managed, is_pinned, number}
 use Rattle.slate_model.specs.Handle.{CloseResult, Handle, accepted, kept_handle, next_table}
 use Rattle.slate_model.specs.Known.{Known, Untouched}
 use Rattle.slate_model.specs.Object.{Handle as AHandle}
-use Rattle.slate_model.specs.Read.{Gives, Reads}
+use Rattle.slate_model.specs.Read.{Gives, ReadsUnlessClosed}
 use Rattle.slate_model.specs.Stores.{by_catalogue, by_objects, kept_rows, world_rows}
 use Rattle.slate_model.specs.Tables.{AreJoined, AreStored}
 use Rattle.slate_model.specs.Valid.{AreBefore, IsValidHandle, ReadsItsLine}
@@ -88,7 +88,7 @@ scan-known merge range order remote snapshot h rows (Ok it) plain = subst (λ c.
 scan-known merge range order remote snapshot h rows (Err fault) plain = plain
 
 -- a read leaves the objects
-pub objects-read : {A : Type 0} {has : List Batch → Type 0} {P : List Batch → Result A ReadFault → Type 0} (closed : CloseResult) (tables : List TableId) (r : Result A SlateError) (o o' : Objects) (f f' : ℕ) → Reads closed tables has P (holding o f) r (holding o' f') → o' ≡ o
+pub objects-read : {A : Type 0} {has : List Batch → Type 0} {P : List Batch → Result A ReadFault → Type 0} (closed : CloseResult) (tables : List TableId) (r : Result A SlateError) (o o' : Objects) (f f' : ℕ) → ReadsUnlessClosed closed tables has P (holding o f) r (holding o' f') → o' ≡ o
 objects-read closed tables r o o' f f' s =
     by-option closed
     (λ live. some-same o' o (s.read live).kept)
@@ -339,7 +339,7 @@ AfterOf store' = (o' : Objects) × (store'.objects ≡ Some o')
 as-before : (o : Objects) (f : ℕ) (store' : Known (List Batch)) → store' ≡ holding o f → AfterOf store'
 as-before o f store' same = (o, ap (λ (k : Known (List Batch)). k.objects) same)
 
-read-after : {A : Type 0} {has : List Batch → Type 0} {P : List Batch → Result A ReadFault → Type 0} (result : CloseResult) (tables : List TableId) (r : Result A SlateError) (o : Objects) (f : ℕ) (store' : Known (List Batch)) → Reads result tables has P (holding o f) r store' → AfterOf store'
+read-after : {A : Type 0} {has : List Batch → Type 0} {P : List Batch → Result A ReadFault → Type 0} (result : CloseResult) (tables : List TableId) (r : Result A SlateError) (o : Objects) (f : ℕ) (store' : Known (List Batch)) → ReadsUnlessClosed result tables has P (holding o f) r store' → AfterOf store'
 read-after result tables r o f store' s =
     by-option result (λ live. (o, (s.read live).kept))
     (λ q is. as-before o f store' (some-of (λ q. (r ≡ Err (closed_error q)) × (store' ≡ holding o f)) result q is s.closed).1)

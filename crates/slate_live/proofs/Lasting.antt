@@ -18,12 +18,12 @@ use Rattle.slate_model.specs.Handle.{CloseResult}
 use Rattle.slate_model.specs.Knowledge.{Knowledge}
 use Rattle.slate_model.specs.Known.{Known}
 use Rattle.slate_model.specs.Object.{Follower as AFollower}
-use Rattle.slate_model.specs.Read.{Reads}
+use Rattle.slate_model.specs.Read.{ReadsUnlessClosed}
 use Rattle.slate_model.specs.Stores.{by_catalogue}
 use Rattle.slate_live.specs.Calls.{Begins, Kind, Steps, Whole, call_of, kind_of, target_of}
 use Rattle.slate_live.specs.declared.targets.Target.TheVariants.{OfObject}
 use Rattle.slate_live.specs.Followers.{TakesFromFollower}
-use Rattle.slate_live.specs.Scans.{Takes, error_of_seek, scanned, sought, with_error}
+use Rattle.slate_live.specs.Scans.{AnswersTaken, error_of_seek, scanned, sought, with_error}
 use Rattle.slate_live.proofs.Cases.{some-of}
 use Rattle.slate_live.proofs.Naming.{FollowerDid, follower-did}
 use Rattle.slate_types.specs.declared.read_faults.ReadFault.{ReadFault}
@@ -154,7 +154,7 @@ found-never None is = absurd (cc)
 found-never (Some row) is = absurd (cc)
 
 -- of something open whose tables are stored
-reads-missing : {A : Type 0} {has : List Batch → Type 0} {P : List Batch → Result A ReadFault → Type 0} (catalogue : Catalogue) (closed : CloseResult) (tables : List TableId) (r : Result A SlateError) (before after : Known Span) → before.objects ≡ Some catalogue → closed ≡ None → AreStored catalogue tables → Reads closed tables has P before r after → r ≡ Err (errors.ObjectStoreError NotFound) → ⊥
+reads-missing : {A : Type 0} {has : List Batch → Type 0} {P : List Batch → Result A ReadFault → Type 0} (catalogue : Catalogue) (closed : CloseResult) (tables : List TableId) (r : Result A SlateError) (before after : Known Span) → before.objects ≡ Some catalogue → closed ≡ None → AreStored catalogue tables → ReadsUnlessClosed closed tables has P before r after → r ≡ Err (errors.ObjectStoreError NotFound) → ⊥
 reads-missing catalogue closed tables r before after at live stored s is = some-of (λ o. AreStored o tables → ⊥) before.objects catalogue at ((s.read live).missing is) stored
 
 -- a fault of a read isn't that of a store
@@ -174,7 +174,7 @@ with-not error_of (Ok rows) never is = absurd (cc)
 with-not error_of (Err fault) never is = never fault (let same : error_of fault ≡ errors.ObjectStoreError NotFound = cc in same)
 
 -- so a scan that answers it didn't begin
-scan-is : (taken : Iteration → Result (List KeyValue) SlateError) (scan : Result Iteration SlateError) (r : Result (List KeyValue) SlateError) → ((it : Iteration) → taken it ≡ Err (errors.ObjectStoreError NotFound) → ⊥) → Takes taken scan r → r ≡ Err (errors.ObjectStoreError NotFound) → scan ≡ Err (errors.ObjectStoreError NotFound)
+scan-is : (taken : Iteration → Result (List KeyValue) SlateError) (scan : Result Iteration SlateError) (r : Result (List KeyValue) SlateError) → ((it : Iteration) → taken it ≡ Err (errors.ObjectStoreError NotFound) → ⊥) → AnswersTaken taken scan r → r ≡ Err (errors.ObjectStoreError NotFound) → scan ≡ Err (errors.ObjectStoreError NotFound)
 scan-is taken (Ok it) r never (inl memory) is = absurd (let no : ◌≡◌ {A = Result (List KeyValue) SlateError} (Err errors.NoMemory) (Err (errors.ObjectStoreError NotFound)) = sym memory ∙ is in cc)
 scan-is taken (Ok it) r never (inr all) is = absurd (never it (sym all ∙ is))
 scan-is taken (Err e) r never refused is = ap Err (let same : ◌≡◌ {A = Result (List KeyValue) SlateError} (Err e) (Err (errors.ObjectStoreError NotFound)) = sym refused ∙ is in let it : e ≡ errors.ObjectStoreError NotFound = cc in it)

@@ -11,7 +11,7 @@ use Rattle.slate_store.proofs.Carried.{Carried, carried, entry-carried}
 use Rattle.slate_store.proofs.Latest.{its-objects}
 use Rattle.slate_store.specs.Checkpoints.{is_expired}
 use Rattle.slate_store.specs.Changes.{after_part}
-use Rattle.slate_store.specs.Content.{AreRising, HasItsTables, IsPinned}
+use Rattle.slate_store.specs.Content.{IdsRise, HasItsTables, IsPinned}
 use Rattle.slate_store.specs.Objects.{Objects, entry_at, latest_manifest}
 use Rattle.slate_store.specs.Sweeps.{has_expired, without_expired}
 use Rattle.slate_store.specs.declared.objects.Manifest.{Manifest}
@@ -163,8 +163,8 @@ module _ (w : World) (reached : IsReached w) (id : List ℕ) (c : Checkpoint) (k
 
 -- after a command that leaves it the checkpoint is there, and keeps what it kept
 module _ (settings : Settings) (w w' : World) (command : Command) (reply : Reply) (reached : IsReached w) (reached' : IsReached w') (next : NextWhole settings w command reply w') where
-  pub rising : AreRising (map (λ e. e.0) w.catalogue.manifests)
-  rising = subst (λ (x : Catalogue). AreRising (map (λ e. e.0) x.manifests)) (reached.3).catalogue (reached.2).manifests
+  pub rising : IdsRise (map (λ e. e.0) w.catalogue.manifests)
+  rising = subst (λ (x : Catalogue). IdsRise (map (λ e. e.0) x.manifests)) (reached.3).catalogue (reached.2).manifests
 
   -- what the latest manifest has, it has after it
   module _ (P : Manifest → Type 0) (latest : VersionedManifest) (is : latest_manifest w.catalogue ≡ Some latest) (spares : Spares P w latest command) where

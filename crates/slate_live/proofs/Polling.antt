@@ -20,7 +20,7 @@ use Rattle.slate_model.specs.Open.{replayed}
 use Rattle.slate_model.proofs.Reduced.{some-same}
 use Rattle.slate_types.specs.Line.{Line, batches_above}
 use Rattle.slate_store.specs.Checkpoints.{Plan, found, lease_end, to_refresh}
-use Rattle.slate_store.specs.Content.{AreRising}
+use Rattle.slate_store.specs.Content.{IdsRise}
 use Rattle.slate_store.specs.Objects.{latest_manifest}
 use Rattle.slate_store.specs.declared.objects.Checkpoint.{Checkpoint}
 use Rattle.slate_store.specs.declared.objects.Manifest.{Manifest}
@@ -109,7 +109,7 @@ module _ (settings : Settings) (w : World) (reached : IsReached w) (segments : A
   -- so where the renewal fails that follows a round
   twice-full : (lease : Lease) (r : Result PollAnswer SlateError) → PollsTwice k settings.extractor made lease moment f (state_of w).store r f' after → r ≡ Err errors.InvalidDBState → Full
   twice-full lease r p is =
-      let both = rounds k settings.extractor made lease moment f w.catalogue w.faults r f' after p (subst (λ (x : Catalogue). AreRising (map (λ e. e.0) x.manifests)) (reached.3).catalogue (reached.2).manifests) in
+      let both = rounds k settings.extractor made lease moment f w.catalogue w.faults r f' after p (subst (λ (x : Catalogue). IdsRise (map (λ e. e.0) x.manifests)) (reached.3).catalogue (reached.2).manifests) in
       let view = (p.middle).view in
       let refused = subst (λ (x : Result PollAnswer SlateError). IfErr x (RenewalCause (to_refresh (p.given).id (p.given).lifetime moment view))) is both.renews.cause in
       let same : both.last ≡ both.between = elim both.parts [

@@ -38,7 +38,7 @@ use Rattle.slate_live.specs.declared.states.Write.{Write}
 use Rattle.slate_live.specs.Calls.{ArePolls, Call, Write as WriteCall, Merge as MergeCall, Flush, Refresh, Compact, Get, Scan, Seek, Close, Poll, Status, FindTime, FindNumber, Nothing, call_of, named, at_snapshot, target_of}
 use Rattle.slate_live.specs.declared.targets.Target.{Target}
 use Rattle.slate_live.specs.declared.targets.Target.TheVariants.{NewHandle, NewSnapshot, NewFollower, NewCheckpoint, WholeStore, OfWrite, OfObject}
-use Rattle.slate_live.specs.Commands.{Acts, ActsAt, ActsOn, Adds, Does, DoesBy, DoesToStore, OpensSnapshot, ReadsSnapshot, added, asked_reply, interval_of, lag_of, lifetime_of, write_reply}
+use Rattle.slate_live.specs.Commands.{Acts, ActsAt, ActsOn, AddsObject, Does, DoesBy, DoesToStore, OpensSnapshot, ReadsSnapshot, added, asked_reply, interval_of, lag_of, lifetime_of, write_reply}
 use Rattle.slate_live.specs.Maintenance.{CommitsTo, SweepsTo}
 use Rattle.slate_live.specs.Replies.{followed_reply, reply_to}
 use Rattle.slate_live.specs.Standing.{StandsBeside}
@@ -441,7 +441,7 @@ module _ (settings : Settings) (w : World) (o : Objects) (is_sound : IsSound o) 
 
   -- an opening of one
   led-followed : (mode : DbReaderMode) (managed : Option (ℕ × ℕ)) (skips : Bool) (asked : Option ℕ) → is_managed mode ≡ false → target_of command.action ≡ NewFollower mode managed skips asked →
-      ((after : Objects) (objects : List Object) → Adds (Rebuilds (by_catalogue w.stored w.catalogue) settings.extractor mode skips true (lag_of asked) (SeesOwed (by_catalogue w.stored w.catalogue) mode skips (lag_of asked)) unseen) (λ (b : Follower × PollAnswer). AFollower b.0) (λ n (b : Follower × PollAnswer). followed_reply n b.1) (state_of w) reply (state_of (world after objects)) × (made ≡ 0) →
+      ((after : Objects) (objects : List Object) → AddsObject (Rebuilds (by_catalogue w.stored w.catalogue) settings.extractor mode skips true (lag_of asked) (SeesOwed (by_catalogue w.stored w.catalogue) mode skips (lag_of asked)) unseen) (λ (b : Follower × PollAnswer). AFollower b.0) (λ n (b : Follower × PollAnswer). followed_reply n b.1) (state_of w) reply (state_of (world after objects)) × (made ≡ 0) →
       Does (by_catalogue w.stored w.catalogue) settings made (state_of w) command reply (state_of (world after objects))) → (r : Result (Follower × PollAnswer) SlateError) → Rebuilds (by_objects (Some o)) settings.extractor mode skips true (lag_of asked) (SeesOwed (by_objects (Some o)) mode skips (lag_of asked)) unseen (holding o w.faults) r store → made ≡ 0 →
       reply ≡ reply_to (λ (b : Follower × PollAnswer). followed_reply (length (map kept w.objects)) b.1) r → live_objects ≡ map kept w.objects ++ added (λ (b : Follower × PollAnswer). AFollower b.0) r → writes ≡ w.writes → Led
   led-followed mode managed skips asked unmanaged is does (Ok b) d none replied objects same_writes =

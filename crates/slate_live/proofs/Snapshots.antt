@@ -22,7 +22,7 @@ use Rattle.slate_types.specs.declared.read_faults.ReadFault.{ReadFault}
 use Rattle.slate_model.specs.Catalogue.{Catalogue, Span}
 use Rattle.slate_model.specs.Known.{Known}
 use Rattle.slate_store.specs.declared.reader_modes.DbReaderMode.TheVariants as modes
-use Rattle.slate_model.specs.Read.{AnswersRead, Reads}
+use Rattle.slate_model.specs.Read.{AnswersRead, ReadsUnlessClosed}
 use Rattle.slate_model.specs.Follower.{Follower}
 use Rattle.slate_model.specs.Handle.{CloseResult, Handle, accepted, up_to}
 use Rattle.slate_model.specs.Knowledge.{Knowledge}
@@ -43,7 +43,7 @@ use Rattle.slate_live.specs.Handles.{GetsFrom, HandleActs, TakesFrom, TakesSnaps
 use Rattle.slate_live.specs.Replies.{found_reply, refusal, reply_to}
 use Rattle.slate_live.specs.Represents.{IsHandleAt, IsOfHandle, IsReached, IsValid}
 use Rattle.slate_live.specs.Rising.{Rise, Rises}
-use Rattle.slate_live.specs.Scans.{Takes, scanned, sought}
+use Rattle.slate_live.specs.Scans.{AnswersTaken, scanned, sought}
 use Rattle.slate_live.specs.Settings.{Settings}
 use Rattle.slate_live.specs.Snapshots.{SnapshotsStay, is_answer, reads_all}
 use Rattle.slate_live.specs.State.{State}
@@ -210,7 +210,7 @@ answered-ok done (Ok x) reply is answered = (x, refl)
 answered-ok done (Err e) reply is answered = absurd (refused-not e (sym (ap is_answer is) ∙ answered))
 
 -- what is read of something that answers Ok
-read-of : {L A : Type 0} {has_rows : List Batch → Type 0} {is_plain : List Batch → Result A ReadFault → Type 0} {before after : Known L} (closed : CloseResult) (tables : List TableId) (r : Result A SlateError) (x : A) → r ≡ Ok x → Reads closed tables has_rows is_plain before r after → (rows : List Batch) × has_rows rows × is_plain rows (Ok x)
+read-of : {L A : Type 0} {has_rows : List Batch → Type 0} {is_plain : List Batch → Result A ReadFault → Type 0} {before after : Known L} (closed : CloseResult) (tables : List TableId) (r : Result A SlateError) (x : A) → r ≡ Ok x → ReadsUnlessClosed closed tables has_rows is_plain before r after → (rows : List Batch) × has_rows rows × is_plain rows (Ok x)
 read-of {has_rows = has_rows} {is_plain = is_plain} closed tables r x is does =
     by-option closed
     (λ live. subst (AnswersRead has_rows is_plain) is (does.read live).plain)
@@ -237,11 +237,11 @@ module _ (settings : Settings) (catalogue : Catalogue) (stored : Line) (x : Hand
   -- of the scan that a read begins, this is taken
   take-gives : (range : ByteRange) (order : IterationOrder) (taken : Iteration → Result (List KeyValue) SlateError) (before after : Known Span) (reply : Reply) → is_answer reply ≡ true → TakesFrom (by_catalogue stored catalogue) settings.merge range order false (Some x.number) taken h before reply after →
       (it : Iteration) × BeginsScan settings.merge front.batches (Some (end front)) range order it × (rows : List KeyValue) × (taken it ≡ Ok rows) × (reply ≡ replies.Rows rows)
-  take-gives range order taken before after reply answered a = by a.scan refl (subst (λ r. Takes taken a.scan r) ok.1 a.takes) where
+  take-gives range order taken before after reply answered a = by a.scan refl (subst (λ r. AnswersTaken taken a.scan r) ok.1 a.takes) where
     ok : (rows : List KeyValue) × (a.result ≡ Ok rows)
     ok = answered-ok replies.Rows a.result reply a.replied answered
 
-    by : (scan : Result Iteration SlateError) → a.scan ≡ scan → Takes taken scan (Ok ok.0) → (it : Iteration) × BeginsScan settings.merge front.batches (Some (end front)) range order it × (rows : List KeyValue) × (taken it ≡ Ok rows) × (reply ≡ replies.Rows rows)
+    by : (scan : Result Iteration SlateError) → a.scan ≡ scan → AnswersTaken taken scan (Ok ok.0) → (it : Iteration) × BeginsScan settings.merge front.batches (Some (end front)) range order it × (rows : List KeyValue) × (taken it ≡ Ok rows) × (reply ≡ replies.Rows rows)
     by (Ok it) is (inl memory) = absurd (cc)
     by (Ok it) is (inr all) =
         let read = read-of h.result h.view.manifest.tables a.scan it is a.scans in

@@ -19,7 +19,7 @@ use Rattle.slate_seqtrack.specs.declared.faults.TrackerFault.{TrackerFault}
 use Rattle.slate_seqtrack.specs.declared.pairs.TrackedSeq.{TrackedSeq}
 use Rattle.slate_store.proofs.Carried.{put-kept}
 use Rattle.slate_store.specs.Checkpoints.{Plan, to_delete, to_refresh, with_checkpoints}
-use Rattle.slate_store.specs.Content.{AreRising}
+use Rattle.slate_store.specs.Content.{IdsRise}
 use Rattle.slate_store.specs.Objects.{ChangeOf, PutLog, PutTable, changed, changed_all, last_log, latest_manifest}
 use Rattle.slate_store.specs.Sweeps.{has_expired}
 use Rattle.slate_store.specs.declared.objects.Manifest.{Manifest}
@@ -52,7 +52,7 @@ use Rattle.slate_script.specs.declared.replies.Reply.TheVariants as replies
 use Rattle.slate_live.specs.Calls.{Begins, Call, Close, Flush, Kind, Steps, Whole, call_of, flush_of_close, kind_of, target_of}
 use Rattle.slate_live.specs.declared.targets.Target.TheVariants.{OfObject}
 use Rattle.slate_live.specs.Next.{NextBegun, NextBy}
-use Rattle.slate_live.specs.Commands.{ActsOn, Adds, DoesBy, added}
+use Rattle.slate_live.specs.Commands.{ActsOn, AddsObject, DoesBy, added}
 use Rattle.slate_live.specs.Handles.{ClosesHandle, flush_type_by}
 use Rattle.slate_live.specs.Replies.{closed_reply, refusal, reply_to}
 use Rattle.slate_live.specs.Represents.{IsHandleAt, IsReached}
@@ -159,7 +159,7 @@ keeps-chain settings number t w (s ∷ steps) reached (link, chain) all h =
     keeps-chain settings number t s.world steps reached' chain (All-tail (λ (step : Step). IsReached step.world) s steps all) (link-keeps settings number t w s reached reached' link h)
 
 -- ---- all changes of a flush
-module _ (o : Catalogue) (its_rising : AreRising (map (λ e. e.0) o.manifests)) (h : Handle) (latest : VersionedManifest) (is : latest_manifest o ≡ Some latest) (last : ℕ) where
+module _ (o : Catalogue) (its_rising : IdsRise (map (λ e. e.0) o.manifests)) (h : Handle) (latest : VersionedManifest) (is : latest_manifest o ≡ Some latest) (last : ℕ) where
   -- the latest manifest stays, or a table was put, and it is the one that names it
   abbrev Leaves : List (ChangeOf Span) → Type 0
   Leaves cs = (latest_manifest (changed_all cs o) ≡ Some latest) ⊎ ((0 < tables_put cs) × (latest_manifest (changed_all cs o) ≡ Some (next_flushed h latest last)))
@@ -380,7 +380,7 @@ module _ (settings : Settings) (w w' : World) (command : Command) (reply : Reply
 
   pub opens-tracked : (n : ℕ) (keeps_log : Bool) → command.action ≡ actions.Open keeps_log → reply ≡ replies.Handle n → (h : Handle) × IsHandleAt w'.objects n h × (h.tracker.pairs ≡ t.pairs)
   opens-tracked n keeps_log names answered = by d.result d.replied d.does d.objects where
-    d : Adds (OpensHandle known settings.extractor next.made keeps_log settings.options.max_unflushed_bytes (option_tasks settings.options)) AHandle (λ n (h : Handle). replies.Handle n) (state_of w) reply (state_of w')
+    d : AddsObject (OpensHandle known settings.extractor next.made keeps_log settings.options.max_unflushed_bytes (option_tasks settings.options)) AHandle (λ n (h : Handle). replies.Handle n) (state_of w) reply (state_of w')
     d = subst (λ t. DoesBy known settings command t next.made (state_of w) reply (state_of w')) (ap target_of names) next.does
 
     by : (r : Result Handle SlateError) → reply ≡ reply_to (λ (h : Handle). replies.Handle (length w.objects)) r → OpensHandle known settings.extractor next.made keeps_log settings.options.max_unflushed_bytes (option_tasks settings.options) (state_of w).store r (state_of w').store → w'.objects ≡ w.objects ++ added AHandle r → (h : Handle) × IsHandleAt w'.objects n h × (h.tracker.pairs ≡ t.pairs)

@@ -34,7 +34,7 @@ use Rattle.slate_script.specs.declared.replies.Reply.{Reply}
 use Rattle.slate_script.specs.declared.replies.Reply.TheVariants as replies
 use Rattle.slate_live.specs.Calls.{Poll, call_of, target_of}
 use Rattle.slate_live.specs.declared.targets.Target.TheVariants.{NewFollower, OfObject}
-use Rattle.slate_live.specs.Commands.{ActsOn, Adds, DoesBy, added, interval_of, lag_of, lifetime_of}
+use Rattle.slate_live.specs.Commands.{ActsOn, AddsObject, DoesBy, added, interval_of, lag_of, lifetime_of}
 use Rattle.slate_live.specs.Followers.{PollsAs}
 use Rattle.slate_live.specs.Leases.{is_whole, polls}
 use Rattle.slate_live.specs.Replies.{followed_reply, polled_reply, refusal, reply_to}
@@ -180,7 +180,7 @@ module _ (settings : Settings) (w w' : World) (command : Command) (reply : Reply
 
   pub opening-holds : Holds n (lifetime / 2) command.moment w'
   opening-holds = by d.result d.replied d.does d.objects where
-    d : Adds (OpensManaged known settings.extractor next.made lifetime (interval_of managed) skips (lag_of lag) command.moment) (λ (b : Follower × PollAnswer). AFollower b.0) (λ n (b : Follower × PollAnswer). followed_reply n b.1) (state_of w) reply (state_of w')
+    d : AddsObject (OpensManaged known settings.extractor next.made lifetime (interval_of managed) skips (lag_of lag) command.moment) (λ (b : Follower × PollAnswer). AFollower b.0) (λ n (b : Follower × PollAnswer). followed_reply n b.1) (state_of w) reply (state_of w')
     d = subst (λ t. DoesBy known settings command t next.made (state_of w) reply (state_of w')) (ap target_of is) next.does
 
     by : (r : Result (Follower × PollAnswer) SlateError) → reply ≡ reply_to (λ (b : Follower × PollAnswer). followed_reply (length w.objects) b.1) r → Opens r → w'.objects ≡ w.objects ++ added (λ (b : Follower × PollAnswer). AFollower b.0) r → Holds n (lifetime / 2) command.moment w'

@@ -35,7 +35,7 @@ added object (Ok opened) = object opened ∷ []
 added object (Err error) = []
 
 -- An opening did this to the store, and adds the object that it answered. All others are as before.
-pub record Adds {L A : Type 0} (did : Known L → Result A SlateError → Known L → Type 0) (object : A → Object) (done : ℕ → A → Reply)
+pub record AddsObject {L A : Type 0} (did : Known L → Result A SlateError → Known L → Type 0) (object : A → Object) (done : ℕ → A → Reply)
     (s : State L) (reply : Reply) (s' : State L) : Type 0 where
   pub result : Result A SlateError
   pub replied : reply ≡ reply_to (done (length s.objects)) result
@@ -79,7 +79,7 @@ ActsOn k settings n command call made (Some old) s reply s' = ActsAt k settings 
 -- a snapshot of the object with number n, where that is a handle
 abbrev pub OpensSnapshot : {L : Type 0} → (n : ℕ) → (made : ℕ) → Option Object → State L → Reply → State L → Type 0
 OpensSnapshot n made (Some (Handle handle)) s reply s' =
-    Adds (TakesSnapshot handle) (λ number. Snapshot (record { handle = n; number = number })) (λ object number. replies.Snapshot object number) s reply s' × (made ≡ 0)
+    AddsObject (TakesSnapshot handle) (λ number. Snapshot (record { handle = n; number = number })) (λ object number. replies.Snapshot object number) s reply s' × (made ≡ 0)
 OpensSnapshot n made found s reply s' = OnlyAnswers replies.Unknown made s reply s'
 
 -- the reply where a write with this number is asked for, by the object that it was written to
@@ -108,13 +108,13 @@ lag_of (Some lag) = lag
 module _ {L : Type 0} (k : Knowledge L) (settings : Settings) where
   abbrev pub OpensHandleIn : Bool → ℕ → State L → Reply → State L → Type 0
   OpensHandleIn keeps_log made s reply s' =
-      Adds (OpensHandle k settings.extractor made keeps_log settings.options.max_unflushed_bytes (option_tasks settings.options)) Handle (λ n _. replies.Handle n) s reply s'
+      AddsObject (OpensHandle k settings.extractor made keeps_log settings.options.max_unflushed_bytes (option_tasks settings.options)) Handle (λ n _. replies.Handle n) s reply s'
 
   abbrev pub OpensFollowerIn : DbReaderMode → (managed : Option (ℕ × ℕ)) → (skips : Bool) → (lag : ℕ) → ℤ → ℕ → State L → Reply → State L → Type 0
   OpensFollowerIn ManagedCheckpoint managed skips lag moment made s reply s' =
-      Adds (OpensManaged k settings.extractor made (lifetime_of managed) (interval_of managed) skips lag moment) (λ b. Follower b.0) (λ n b. followed_reply n b.1) s reply s'
+      AddsObject (OpensManaged k settings.extractor made (lifetime_of managed) (interval_of managed) skips lag moment) (λ b. Follower b.0) (λ n b. followed_reply n b.1) s reply s'
   OpensFollowerIn mode managed skips lag moment made s reply s' =
-      Adds (Rebuilds k settings.extractor mode skips true lag (SeesOwed k mode skips lag) unseen) (λ b. Follower b.0) (λ n b. followed_reply n b.1) s reply s' × (made ≡ 0)
+      AddsObject (Rebuilds k settings.extractor mode skips true lag (SeesOwed k mode skips lag) unseen) (λ b. Follower b.0) (λ n b. followed_reply n b.1) s reply s' × (made ≡ 0)
 
   -- what a command does, by where it goes; so many of its changes were made
   abbrev pub DoesBy : Command → Target → ℕ → State L → Reply → State L → Type 0

@@ -12,7 +12,7 @@ use Rattle.slate_model.specs.declared.answers.PollAnswer.{PollAnswer}
 use Rattle.slate_model.specs.declared.answers.PollAnswer.TheVariants.{Whole, Truncated}
 use Rattle.slate_model.specs.Handle.{CloseResult}
 use Rattle.slate_model.specs.Known.{Known}
-use Rattle.slate_model.specs.Read.{Reads}
+use Rattle.slate_model.specs.Read.{ReadsUnlessClosed}
 use Rattle.slate_status.specs.declared.statuses.DbStatus.{DbStatus}
 use Rattle.slate_script.specs.declared.replies.Reply.{Reply}
 use Rattle.slate_script.specs.declared.replies.Reply.TheVariants as replies
@@ -34,7 +34,7 @@ pub record IsRead {L A : Type 0} (done : A → Reply) (closed : CloseResult) (ta
     (is_plain : List Batch → Result A ReadFault → Type 0) (before : Known L) (reply : Reply) (after : Known L) : Type 0 where
   pub result : Result A SlateError
   pub replied : reply ≡ reply_to done result
-  pub does : Reads closed tables has_rows is_plain before result after
+  pub does : ReadsUnlessClosed closed tables has_rows is_plain before result after
 
 abbrev pub found_reply : Option KeyValue → Reply
 found_reply None = replies.Absent

@@ -13,7 +13,7 @@ use Rattle.slate_errors.specs.declared.errors.SlateError.TheVariants.{SeekKeyOut
 use Rattle.slate_errors.specs.Errors.{error_of_read}
 use Rattle.slate_model.specs.Handle.{CloseResult}
 use Rattle.slate_model.specs.Known.{Known}
-use Rattle.slate_model.specs.Read.{Gives, Reads}
+use Rattle.slate_model.specs.Read.{Gives, ReadsUnlessClosed}
 use Rattle.slate_script.specs.declared.replies.Reply.{Reply}
 use Rattle.slate_script.specs.declared.replies.Reply.TheVariants as replies
 use Rattle.slate_live.specs.Replies.{reply_to}
@@ -38,9 +38,9 @@ abbrev pub sought : ByteRange → ℕ → List ℕ → Iteration → Result (Lis
 sought range count key it = with_error (error_of_seek range key) (seek_at count key it)
 
 -- this is taken of a scan, unless memory ran out; what refuses the scan refuses it
-abbrev pub Takes : (Iteration → Result (List KeyValue) SlateError) → Result Iteration SlateError → Result (List KeyValue) SlateError → Type 0
-Takes taken (Ok it) result = (result ≡ Err NoMemory) ⊎ (result ≡ taken it)
-Takes taken (Err error) result = result ≡ Err error
+abbrev pub AnswersTaken : (Iteration → Result (List KeyValue) SlateError) → Result Iteration SlateError → Result (List KeyValue) SlateError → Type 0
+AnswersTaken taken (Ok it) result = (result ≡ Err NoMemory) ⊎ (result ≡ taken it)
+AnswersTaken taken (Err error) result = result ≡ Err error
 
 -- The reply where this is taken of a scan of something that closed with this result, or is open, and reads these tables.
 -- `has_rows` says which batches it reads, and `is_scan` which iteration is over the plain scan of some.
@@ -48,6 +48,6 @@ pub record IsTaken {L : Type 0} (closed : CloseResult) (tables : List TableId) (
     (taken : Iteration → Result (List KeyValue) SlateError) (before : Known L) (reply : Reply) (after : Known L) : Type 0 where
   pub scan : Result Iteration SlateError
   pub result : Result (List KeyValue) SlateError
-  pub scans : Reads closed tables has_rows (Gives is_scan) before scan after
-  pub takes : Takes taken scan result
+  pub scans : ReadsUnlessClosed closed tables has_rows (Gives is_scan) before scan after
+  pub takes : AnswersTaken taken scan result
   pub replied : reply ≡ reply_to replies.Rows result

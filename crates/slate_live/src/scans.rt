@@ -1,7 +1,7 @@
 // Taking the rows of a scan, and the replies to scans and seeks.
 ghost use Rattle.std.specs.Prelude.{◌≡◌, IfOk};
 ghost use Rattle.slate_live.specs.Replies.{reply_to};
-ghost use Rattle.slate_live.specs.Scans.{Takes, error_of_seek, scanned, sought};
+ghost use Rattle.slate_live.specs.Scans.{AnswersTaken, error_of_seek, scanned, sought};
 ghost use Rattle.slate_script.specs.declared.replies.Reply.TheVariants.{Rows};
 
 use crate::handles::refusal;
@@ -17,7 +17,7 @@ pub(crate) fn all_rows(
     alloc: Global,
     scan: Result<DbIterator, SlateError>,
 ) -> Result<Seq<KeyValue>, SlateError>
-    ensures { Takes scanned scan result }
+    ensures { AnswersTaken scanned scan result }
 {
     let iterator = scan?;
     Ok(iterator.into_rows(alloc)?)
@@ -31,7 +31,7 @@ pub(crate) fn rows_with_seek(
     key: &Bytes,
     range: &ByteRange,
 ) -> Result<Seq<KeyValue>, SlateError>
-    ensures { Takes (sought range.now take key.now) scan result }
+    ensures { AnswersTaken (sought range.now take key.now) scan result }
 {
     let iterator = scan?;
     match iterator.into_rows_with_seek(alloc, take, key.as_slice()) {

@@ -10,7 +10,7 @@ use Rattle.slate_store.proofs.Carried.{Carry, put-kept, put-rising}
 use Rattle.slate_store.proofs.Latest.{rising-last, some-versioned}
 use Rattle.slate_store.specs.Checkpoints.{Plan, is_expired, with_checkpoints}
 use Rattle.slate_store.specs.Compaction.{compact_changes_by, with_table}
-use Rattle.slate_store.specs.Content.{AreRising}
+use Rattle.slate_store.specs.Content.{IdsRise}
 use Rattle.slate_store.specs.Objects.{ChangeOf, ObjectsOf, PutManifest, RemoveLog, RemoveManifest, RemoveTable, changed, changed_all, latest_manifest}
 use Rattle.slate_store.specs.Refusals.{planned}
 use Rattle.slate_store.specs.Sweeps.{has_expired, keeps_log, keeps_manifest, keeps_table, protecting, removals, sweep_changes_by, without_expired}
@@ -98,7 +98,7 @@ module _ {L : Type 0} (P : Manifest → Type 0) where
   logs-carry id [] rest carry = carry
   logs-carry id (l ∷ ls) rest carry = logs-carry id ls rest carry
 
-  removals-carry : (latest : VersionedManifest) (o : ObjectsOf L) → AreRising (map (λ e. e.0) o.manifests) → latest_manifest o ≡ Some latest → Carry P latest.id (removals latest o)
+  removals-carry : (latest : VersionedManifest) (o : ObjectsOf L) → IdsRise (map (λ e. e.0) o.manifests) → latest_manifest o ≡ Some latest → Carry P latest.id (removals latest o)
   removals-carry latest o rising is =
       tables-carry latest.id (filter (λ table. not (keeps_table (protecting latest o) table.0)) o.tables) _
       (logs-carry latest.id (filter (λ log. not (keeps_log (protecting latest o) log.0)) o.logs) _
@@ -108,7 +108,7 @@ module _ {L : Type 0} (P : Manifest → Type 0) where
     abbrev first : Bool → List (ChangeOf L)
     first b = cond b (PutManifest (unexpired moment latest b).id (unexpired moment latest b).manifest ∷ []) []
 
-    pub sweep-carries : (o : ObjectsOf L) → AreRising (map (λ e. e.0) o.manifests) → latest_manifest o ≡ Some latest → P (without_expired moment latest).manifest → Carry P latest.id (sweep_changes_by moment o (Some latest))
+    pub sweep-carries : (o : ObjectsOf L) → IdsRise (map (λ e. e.0) o.manifests) → latest_manifest o ≡ Some latest → P (without_expired moment latest).manifest → Carry P latest.id (sweep_changes_by moment o (Some latest))
     sweep-carries o rising is = by (has_expired moment latest) where
       by : (b : Bool) → P (unexpired moment latest b).manifest → Carry P latest.id (first b ++ removals (unexpired moment latest b) (changed_all (first b) o))
       by true has =

@@ -12,7 +12,7 @@ use Rattle.std.specs.Prelude.{nat_lt}
 use Rattle.slate_store.proofs.Carried.{put-kept}
 use Rattle.slate_store.proofs.Entries.{lookup-insert_same, same_table, table_total, tied}
 use Rattle.slate_store.specs.Checkpoints.{Plan, found, has_id, new_checkpoint, puts_next, to_write, with_checkpoints, without_replaced}
-use Rattle.slate_store.specs.Content.{AreRising}
+use Rattle.slate_store.specs.Content.{IdsRise}
 use Rattle.slate_store.proofs.Parts.{part-none}
 use Rattle.slate_store.specs.Objects.{ObjectsOf, PutManifest, changed, entry_at, latest_manifest, table_cmp}
 use Rattle.slate_store.specs.Refusals.{checkpoint_changes, planned, planned_after}
@@ -96,7 +96,7 @@ module _ {A : Type 0} (latest : VersionedManifest) (next : Option VersionedManif
   its-manifest p gives puts = its-checkpoints (subst (λ p. Recheckpoints latest p) gives puts)
 
 -- one that a plan puts is the latest one then, and stored under its id
-module _ {L A : Type 0} (plan : VersionedManifest → Plan A) (o : ObjectsOf L) (latest put : VersionedManifest) (answer : A) (rising : AreRising (map (λ e. e.0) o.manifests)) (is : latest_manifest o ≡ Some latest) (gives : plan latest ≡ Ok (Some put, answer)) (puts : Recheckpoints latest (plan latest)) where
+module _ {L A : Type 0} (plan : VersionedManifest → Plan A) (o : ObjectsOf L) (latest put : VersionedManifest) (answer : A) (rising : IdsRise (map (λ e. e.0) o.manifests)) (is : latest_manifest o ≡ Some latest) (gives : plan latest ≡ Ok (Some put, answer)) (puts : Recheckpoints latest (plan latest)) where
   pub changes-are : checkpoint_changes {L = L} plan o ≡ PutManifest put.id put.manifest ∷ []
   changes-are = ap (planned_after plan) is ∙ ap planned gives
 
@@ -120,7 +120,7 @@ module _ {L A : Type 0} (plan : VersionedManifest → Plan A) (o : ObjectsOf L) 
   puts-one = ap length changes-are
 
 -- so where all of a plan's changes are made, the manifest that it leaves is the latest one
-pub planned-latest : {L A : Type 0} (plan : VersionedManifest → Plan A) (made : ℕ) (o : ObjectsOf L) (latest : VersionedManifest) (next : Option VersionedManifest) (given : A) → AreRising (map (λ e. e.0) o.manifests) → latest_manifest o ≡ Some latest → plan latest ≡ Ok (next, given) → Recheckpoints latest (plan latest) →
+pub planned-latest : {L A : Type 0} (plan : VersionedManifest → Plan A) (made : ℕ) (o : ObjectsOf L) (latest : VersionedManifest) (next : Option VersionedManifest) (given : A) → IdsRise (map (λ e. e.0) o.manifests) → latest_manifest o ≡ Some latest → plan latest ≡ Ok (next, given) → Recheckpoints latest (plan latest) →
     made ≡ length (checkpoint_changes {L = L} plan o) → latest_manifest (after_part made (checkpoint_changes plan o) o) ≡ Some (unwrap_or next latest)
 planned-latest {L} {A} plan made o latest next given rising is gives puts part = by next gives where
   by : (n : Option VersionedManifest) → plan latest ≡ Ok (n, given) → latest_manifest (after_part made (checkpoint_changes plan o) o) ≡ Some (unwrap_or n latest)

@@ -18,7 +18,7 @@ use Rattle.slate_store.proofs.Parts.{part-more, part-none, part-one}
 use Rattle.slate_store.proofs.Removed.{IsSpare, removed-part}
 use Rattle.slate_store.proofs.Swept.{fails, sweep-keeps}
 use Rattle.slate_store.specs.Checkpoints.{Plan, found, is_expired, lease_end, new_checkpoint, puts_next, to_delete, to_end, to_refresh, to_take_out, to_write, with_checkpoints}
-use Rattle.slate_store.specs.Content.{AreRising, IsPinned, IsSound, content}
+use Rattle.slate_store.specs.Content.{IdsRise, IsPinned, IsSound, content}
 use Rattle.slate_store.specs.Objects.{last_log, Change, ChangeOf, Objects, PutLog, PutManifest, PutTable, RemoveLog, RemoveManifest, RemoveTable, changed, changed_all, entry_at, is_present, last, latest_manifest, table_at, table_cmp, versioned}
 use Rattle.slate_store.specs.Refusals as calls
 use Rattle.slate_store.specs.Refusals.{FollowsPlan, KeepsContent, checkpoint_changes, planned, planned_after}
@@ -321,11 +321,11 @@ module _ (moment : ℤ) (o : Objects) where
   sweep-no_table (Some latest) = sweep_by-no_table latest (has_expired moment latest)
 
   -- it removes log files in their order
-  sweep_by-rises : IsSound o → (latest : VersionedManifest) (t : Bool) → AreRising (removed_ids (sweep_by latest t))
+  sweep_by-rises : IsSound o → (latest : VersionedManifest) (t : Bool) → IdsRise (removed_ids (sweep_by latest t))
   sweep_by-rises sound latest false = removals-rise latest o sound.logs
   sweep_by-rises sound latest true = removals-rise (unexpired moment latest) (changed (PutManifest (unexpired moment latest).id (unexpired moment latest).manifest) o) sound.logs
 
-  sweep-rises : IsSound o → (found : Option VersionedManifest) → AreRising (removed_ids (sweep_changes_by moment o found))
+  sweep-rises : IsSound o → (found : Option VersionedManifest) → IdsRise (removed_ids (sweep_changes_by moment o found))
   sweep-rises sound None = tt
   sweep-rises sound (Some latest) = sweep_by-rises sound latest (has_expired moment latest)
 

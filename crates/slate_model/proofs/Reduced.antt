@@ -42,7 +42,7 @@ use Rattle.slate_model.specs.Seen.{HasSeen}
 use Rattle.slate_model.specs.Stores.{JoinFault, Stands, Unpinned, by_catalogue, by_objects, kept_seen}
 use Rattle.slate_model.specs.Knowledge.{Knowledge}
 use Rattle.slate_model.specs.Refresh.{CompactAnswer, CompactCause, Compacts, JoinsTables, RefreshAnswer, Refreshes}
-use Rattle.slate_model.specs.Read.{AnswersRead, Reads}
+use Rattle.slate_model.specs.Read.{AnswersRead, ReadsUnlessClosed}
 use Rattle.slate_model.specs.Tables.{AreStored}
 use Rattle.slate_model.proofs.Keeping.{accepted-kept, changes-kept, cond-twice, ids-kept, line_above-end, line_above-twice, view-kept, log_for-kept}
 use Rattle.slate_model.specs.Changes.{PartMade, after_part}
@@ -314,7 +314,7 @@ read-answers reads_as (Err e) a = absurd a
 
 -- a read of what the code has of the batches is one of them
 pub reads-reduced : {A : Type 0} {has has' : List Batch → Type 0} {P P' : List Batch → Result A ReadFault → Type 0} → ReadsAs has P has' P' →
-    (closed : CloseResult) (tables : List TableId) (r : Result A SlateError) (o o' : Objects) (f f' : ℕ) → Reads closed tables has P (holding o f) r (holding o' f') → Reads closed tables has' P' (catalogued o f) r (catalogued o' f')
+    (closed : CloseResult) (tables : List TableId) (r : Result A SlateError) (o o' : Objects) (f f' : ℕ) → ReadsUnlessClosed closed tables has P (holding o f) r (holding o' f') → ReadsUnlessClosed closed tables has' P' (catalogued o f) r (catalogued o' f')
 reads-reduced reads_as closed tables r o o' f f' s = record {
   closed = if_some {Q = λ q. (r ≡ Err (closed_error q)) × (catalogued o' f' ≡ catalogued o f)} closed (λ q c. (c.0, same-known o o' f f' c.1)) s.closed;
   read = λ live. let d = s.read live in record {

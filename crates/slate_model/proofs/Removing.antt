@@ -7,7 +7,7 @@ use Rattle.std.specs.List.{AllByRecursion, filter, list_any}
 use Rattle.std.specs.Ordering.{nat_cmp}
 use Rattle.std.specs.Prelude.{nat_lt}
 use Rattle.slate_types.specs.declared.batches.Batch.{Batch}
-use Rattle.slate_store.specs.Content.{AreRising}
+use Rattle.slate_store.specs.Content.{IdsRise}
 use Rattle.slate_store.specs.Objects.{Change, Objects, PutLog, PutManifest, PutTable, RemoveLog, RemoveManifest, RemoveTable, changed, entry_at, log_at}
 use Rattle.slate_store.specs.Sweeps.{keeps_log, keeps_manifest, keeps_table, protecting, removals}
 use Rattle.slate_store.specs.declared.objects.Manifest.{Manifest}
@@ -80,7 +80,7 @@ first-goes last q made cs o puts above waits later id below some low within none
   ]
 ]
 
-pub part-go : (last made : ℕ) (cs : List Change) (o : Objects) → PutLogs (λ batches. ⊥) cs → AreRising (removed_ids cs) → Waits o (removed_ids cs) → LogsGo last o (after_part made cs o)
+pub part-go : (last made : ℕ) (cs : List Change) (o : Objects) → PutLogs (λ batches. ⊥) cs → IdsRise (removed_ids cs) → Waits o (removed_ids cs) → LogsGo last o (after_part made cs o)
 part-go last zero cs o puts rising waits = λ id below some low within none. inl none
 part-go last (suc made) [] o puts rising waits = λ id below some low within none. inl none
 part-go last (suc made) (PutLog q log ∷ cs) o puts rising waits = absurd puts.0
@@ -112,8 +112,8 @@ ids-are latest o =
     ids-after-tables tables (map (λ log. RemoveLog log.0) logs ++ map (λ entry. RemoveManifest entry.0) manifests)
     ∙ ids-of-logs logs (map (λ entry. RemoveManifest entry.0) manifests) (ids-of-manifests manifests)
 
-pub removals-rise : (latest : VersionedManifest) (o : Objects) → AreRising (map (λ log. log.0) o.logs) → AreRising (removed_ids (removals latest o))
-removals-rise latest o rising = subst AreRising (sym (ids-are latest o)) (rising-filter (λ (log : ℕ × List Batch). log.0) (λ log. not (keeps_log (protecting latest o) log.0)) o.logs rising)
+pub removals-rise : (latest : VersionedManifest) (o : Objects) → IdsRise (map (λ log. log.0) o.logs) → IdsRise (removed_ids (removals latest o))
+removals-rise latest o rising = subst IdsRise (sym (ids-are latest o)) (rising-filter (λ (log : ℕ × List Batch). log.0) (λ log. not (keeps_log (protecting latest o) log.0)) o.logs rising)
 
 -- one that is stored and passes is among those that pass
 passed-among : (id : ℕ) (batches : List Batch) (test : ℕ → Bool) (es : List (ℕ × List Batch)) → entry_at id es ≡ Some batches → test id ≡ true → IsAmong id (map (λ e. e.0) (filter (λ e. test e.0) es))

@@ -5,7 +5,7 @@ use Rattle.std.specs.Bool.{MatchBool}
 use Rattle.std.specs.Prelude.{◌&&◌, ◌||◌, is_none}
 use Rattle.slate_store.proofs.Carried.{put-kept, put-rising}
 use Rattle.slate_store.specs.Checkpoints.{Plan, found, to_refresh, to_write, with_checkpoints}
-use Rattle.slate_store.specs.Content.{AreRising}
+use Rattle.slate_store.specs.Content.{IdsRise}
 use Rattle.slate_store.specs.Objects.{ObjectsOf, PutManifest, changed, latest_manifest}
 use Rattle.slate_store.specs.Refusals.{checkpoint_changes}
 use Rattle.slate_store.specs.declared.objects.Checkpoint.{Checkpoint}
@@ -76,7 +76,7 @@ module _ {L : Type 0} (k : Knowledge L) (x : Option Extractor) (made : ℕ) (lea
     pub renews : PutsRenewal k.stands renewal_of between r p.again last
     pub parts : Parts between last
 
-  pub rounds : AreRising (map (λ e. e.0) o.manifests) → Rounds
+  pub rounds : IdsRise (map (λ e. e.0) o.manifests) → Rounds
   rounds rising =
       let t = took in
       let u = (p.round.puts).some o refl in
@@ -97,14 +97,14 @@ module _ {L : Type 0} (k : Knowledge L) (x : Option Extractor) (made : ℕ) (lea
         parts = parts-of u.0 v.0 (its-rising t u.0 put) (ap latest_manifest u.2.after ∙ put-latest_is plan o t.latest p.middle.view p.given rising t.is t.gives puts p.first one) (planned-parts renewal_of p.again u.0 v.0 v.2.part v.2.after);
       } where
         -- the ids rise after the first put
-        its-rising : (t : Took) (between : ObjectsOf L) → between ≡ changed (PutManifest p.middle.view.id p.middle.view.manifest) o → AreRising (map (λ e. e.0) between.manifests)
+        its-rising : (t : Took) (between : ObjectsOf L) → between ≡ changed (PutManifest p.middle.view.id p.middle.view.manifest) o → IdsRise (map (λ e. e.0) between.manifests)
         its-rising t between put =
             let its = put-is_next plan o t.latest p.middle.view p.given rising t.is t.gives (keep-recheckpoints old.view lease moment t.latest) in
             let id : p.middle.view.id ≡ t.latest.id + 1 = ap (λ (v : VersionedManifest). v.id) its.1 in
-            subst (λ (s : ObjectsOf L). AreRising (map (λ e. e.0) s.manifests)) (sym put)
-            (subst (λ n. AreRising (map (λ e. e.0) (changed (PutManifest n p.middle.view.manifest) o).manifests)) (sym id) (put-rising (λ m. Unit {0}) o t.latest rising t.is p.middle.view.manifest))
+            subst (λ (s : ObjectsOf L). IdsRise (map (λ e. e.0) s.manifests)) (sym put)
+            (subst (λ n. IdsRise (map (λ e. e.0) (changed (PutManifest n p.middle.view.manifest) o).manifests)) (sym id) (put-rising (λ m. Unit {0}) o t.latest rising t.is p.middle.view.manifest))
 
-        parts-of : (between last : ObjectsOf L) → AreRising (map (λ e. e.0) between.manifests) → latest_manifest between ≡ Some p.middle.view →
+        parts-of : (between last : ObjectsOf L) → IdsRise (map (λ e. e.0) between.manifests) → latest_manifest between ≡ Some p.middle.view →
             (last ≡ between) ⊎ ((next : VersionedManifest) × (c : Checkpoint) × (renewal_of ≡ Ok (Some next, c)) × (last ≡ changed (PutManifest next.id next.manifest) between)) → Parts between last
         parts-of between last risen is (inl same) = inl same
         parts-of between last risen is (inr (next, c, gives, put)) =

@@ -12,7 +12,7 @@ use Rattle.slate_types.specs.Line.{IsLine}
 use Rattle.slate_store.proofs.Entries.{apart, greater, lookup-insert_other}
 use Rattle.slate_store.proofs.Kept.{logs-kept, manifest-keeps, pinned-kept, prefix-same, tables-kept}
 use Rattle.slate_store.proofs.Latest.{its-objects, last-cons, some-versioned}
-use Rattle.slate_store.specs.Content.{AreRising, HasItsObjects, IsPinned, IsSound, content, content_by}
+use Rattle.slate_store.specs.Content.{IdsRise, HasItsObjects, IsPinned, IsSound, content, content_by}
 use Rattle.slate_store.specs.Objects.{Objects, PutManifest, changed, entry_at, last, last_log, latest_manifest, versioned}
 use Rattle.slate_store.specs.declared.objects.Checkpoint.{Checkpoint}
 use Rattle.slate_store.specs.declared.objects.Manifest.{Manifest}
@@ -64,7 +64,7 @@ all-insert a k m (e ∷ es) less all = elim (cases_lt k e.0) [
   ]
 ]
 
-rising-insert : (k : ℕ) (m : Manifest) (es : List (ℕ × Manifest)) → AreRising (map (λ e. e.0) es) → AreRising (map (λ e. e.0) (insert_entry nat_cmp es k m))
+rising-insert : (k : ℕ) (m : Manifest) (es : List (ℕ × Manifest)) → IdsRise (map (λ e. e.0) es) → IdsRise (map (λ e. e.0) (insert_entry nat_cmp es k m))
 rising-insert k m [] rising = (tt, tt)
 rising-insert k m (e ∷ es) rising = elim (cases_lt k e.0) [
   | inl below ↦ let cmp : nat_cmp k e.0 ≡ Less = sym (nat_cmp_is k e.0 Less below) in rw cmp ((below, all-more k e.0 (map (λ e. e.0) es) below rising.0), rising)
@@ -80,7 +80,7 @@ last-above a (e ∷ []) z all is = let same : e ≡ z = cc in subst (λ (x : ℕ
 last-above a (e ∷ y ∷ es) z all is = last-above a (y ∷ es) z all.1 (sym (last-cons e y es) ∙ is)
 
 -- the last one stands under its id
-last-entry : (es : List (ℕ × Manifest)) (z : ℕ × Manifest) → AreRising (map (λ e. e.0) es) → last es ≡ Some z → entry_at z.0 es ≡ Some z.1
+last-entry : (es : List (ℕ × Manifest)) (z : ℕ × Manifest) → IdsRise (map (λ e. e.0) es) → last es ≡ Some z → entry_at z.0 es ≡ Some z.1
 last-entry [] z rising is = absurd (cc)
 last-entry (e ∷ []) z rising is =
     let same : e ≡ z = cc in

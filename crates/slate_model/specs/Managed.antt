@@ -85,7 +85,7 @@ abbrev pub unseen_line : Line → Type 0
 unseen_line line = Unit {0}
 
 -- An opening commits a checkpoint with this lifetime, and its reader goes by the manifest that does, under the lease of that.
-pub record Takes {L : Type 0} (k : Knowledge L) (lifetime : ℕ) (skips : Bool) (lag : ℕ) (moment : ℤ) (objects : ObjectsOf L) (follower : Follower) (answer : PollAnswer) (objects' : ObjectsOf L) : Type 0 where
+pub record TakesView {L : Type 0} (k : Knowledge L) (lifetime : ℕ) (skips : Bool) (lag : ℕ) (moment : ℤ) (objects : ObjectsOf L) (follower : Follower) (answer : PollAnswer) (objects' : ObjectsOf L) : Type 0 where
   pub given : Lease
   pub plan : PlanIs (to_take lifetime moment) objects (Ok (Some follower.view, given))
   pub leased : follower.lease ≡ Some given
@@ -97,7 +97,7 @@ pub record TakesLease {L : Type 0} (k : Knowledge L) (extractor : Option Extract
   pub faults : CountsFaults before.faults after.faults result
   pub puts : WhereModelled (λ o o'. PutsPlanned k.stands (TakeRefusal extractor) (to_take lifetime moment) o result made o') before.objects after.objects
   pub answers : IfOk result (λ b. IsOpenAt skips lag b.0 b.1)
-  pub takes : IfOk result (λ b. WhereModelled (λ o o'. Takes k lifetime skips lag moment o b.0 b.1 o') before.objects after.objects)
+  pub takes : IfOk result (λ b. WhereModelled (λ o o'. TakesView k lifetime skips lag moment o b.0 b.1 o') before.objects after.objects)
   pub fits : IfOk result (λ b. (o : ObjectsOf L) → before.objects ≡ Some o → RefusesLatest extractor true o None)
   pub segmented : (o : ObjectsOf L) (line : Line) → before.objects ≡ Some o → k.is_stored line → AreFollowed k extractor ManagedCheckpoint skips true o line result
   pub segments : IfOk result (λ b. HasSegments extractor b.0)

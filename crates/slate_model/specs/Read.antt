@@ -39,11 +39,11 @@ pub record ReadsTables {L A : Type 0} (tables : List TableId) (has_rows : List B
   pub plain : AnswersRead has_rows is_plain answer
 
 -- A read of something that closed with this result, or is open: what closed it is answered, else it is read.
-pub record Reads {L A : Type 0} (result : CloseResult) (tables : List TableId) (has_rows : List Batch → Type 0) (is_plain : List Batch → Result A ReadFault → Type 0)
+pub record ReadsUnlessClosed {L A : Type 0} (result : CloseResult) (tables : List TableId) (has_rows : List Batch → Type 0) (is_plain : List Batch → Result A ReadFault → Type 0)
     (before : Known L) (answer : Result A SlateError) (after : Known L) : Type 0 where
   pub closed : IfSome result (λ r. (answer ≡ Err (closed_error r)) × (after ≡ before))
   pub read : result ≡ None → ReadsTables tables has_rows is_plain before answer after
 
 -- what a read says whatever its operator answers: all but what it finds
 abbrev pub ReadsByAny : {L A : Type 0} → CloseResult → List TableId → Known L → Result A SlateError → Known L → Type 0
-ReadsByAny result tables before answer after = Reads result tables (λ rows. Unit {0}) (λ rows found. Unit {0}) before answer after
+ReadsByAny result tables before answer after = ReadsUnlessClosed result tables (λ rows. Unit {0}) (λ rows found. Unit {0}) before answer after

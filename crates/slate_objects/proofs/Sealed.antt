@@ -9,7 +9,7 @@ use Rattle.slate_objects.specs.declared.faults.DecodeFault.TheVariants.{AnotherK
 use Rattle.slate_objects.specs.declared.faults.DecodeError.{DecodeError}
 use Rattle.slate_objects.specs.declared.seals.Head.{Head}
 use Rattle.slate_objects.specs.Checksum.{crc32}
-use Rattle.slate_objects.specs.Reading.{◌>>=◌, Gives, IsBytes, number_at, word_at}
+use Rattle.slate_objects.specs.Reading.{◌>>=◌, GivesDecoded, IsBytes, number_at, word_at}
 use Rattle.slate_objects.specs.Sealing.{body_in, checked, head_at, kind_at, object_in, sealed, version_at, has_version, whole}
 use Rattle.slate_objects.specs.Spelling.{number, word}
 use Rattle.slate_objects.proofs.Laws.{IsFormat, Takes, Takes-then, bind_ok, number_format, ok_is, word_format}
@@ -148,12 +148,12 @@ module _ {A : Type 0} {read_at : List ℕ → Result (A × List ℕ) DecodeFault
       subst P (sym (is ∙ ap (sealed kind version) same)) (again kind version x lt low fits (rw (← same) small) (rw (← same) sum))
 
   -- the same, of what a function gave
-  pub read_only : (kind version : ℕ) (bytes : List ℕ) (r : Result A DecodeError) → IsBytes bytes → Gives r (object_in read_at kind version bytes) → IfOk r (λ x. bytes ≡ sealed kind version (spelled x))
+  pub read_only : (kind version : ℕ) (bytes : List ℕ) (r : Result A DecodeError) → IsBytes bytes → GivesDecoded r (object_in read_at kind version bytes) → IfOk r (λ x. bytes ≡ sealed kind version (spelled x))
   read_only kind version bytes (Ok x) fits given = (only kind version bytes x fits given).0
   read_only kind version bytes (Err e) fits given = tt
 
   -- the same, of what was read of a body
-  pub opened_only : (kind version : ℕ) (bytes body rest : List ℕ) (x : A) (r : Result A DecodeError) → IsBytes bytes → body_in kind version bytes ≡ Ok body → read_at body ≡ Ok (x, rest) → Gives r (whole (x, rest)) →
+  pub opened_only : (kind version : ℕ) (bytes body rest : List ℕ) (x : A) (r : Result A DecodeError) → IsBytes bytes → body_in kind version bytes ≡ Ok body → read_at body ≡ Ok (x, rest) → GivesDecoded r (whole (x, rest)) →
       IfOk r (λ y. (bytes ≡ sealed kind version (spelled y)) × Fits y)
   unfolding object_in
   opened_only kind version bytes body rest x (Ok y) fits opened read given = only kind version bytes y fits (rw (opened, read) given)

@@ -21,14 +21,14 @@ Fails errors.NoMemory read = Unit {0}
 Fails (errors.Fault fault) read = read ≡ Err fault
 
 -- what a function returned is what a reading of all bytes gives, unless memory ran out
-abbrev pub Gives : {X : Type 0} → Result X DecodeError → Result X DecodeFault → Type 0
-Gives (Ok x) read = read ≡ Ok x
-Gives (Err error) read = Fails error read
+abbrev pub GivesDecoded : {X : Type 0} → Result X DecodeError → Result X DecodeFault → Type 0
+GivesDecoded (Ok x) read = read ≡ Ok x
+GivesDecoded (Err error) read = Fails error read
 
 -- the same of a reading at the front of bytes, where these bytes are left
-abbrev pub Reads : {X : Type 0} → Result X DecodeError → List ℕ → Result (X × List ℕ) DecodeFault → Type 0
-Reads (Ok x) left read = read ≡ Ok (x, left)
-Reads (Err error) left read = Fails error read
+abbrev pub ReadsFront : {X : Type 0} → Result X DecodeError → List ℕ → Result (X × List ℕ) DecodeFault → Type 0
+ReadsFront (Ok x) left read = read ≡ Ok (x, left)
+ReadsFront (Err error) left read = Fails error read
 
 -- a tag
 unfoldable pub tag_at : List ℕ → Result (ℕ × List ℕ) DecodeFault

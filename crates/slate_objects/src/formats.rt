@@ -1,7 +1,7 @@
 // Values as bytes: how one is read at the front of bytes, and how it is spelled.
 ghost use Rattle.std.specs.Prelude.{◌≡◌, ◌≤◌, ◌<◌, ◌^◌, ◌++◌, List, ℕ, suc, length, OnOk, Result};
 ghost use Rattle.slate_objects.specs.declared.faults.DecodeFault.{DecodeFault};
-ghost use Rattle.slate_objects.specs.Reading.{Gives, Reads, bytes_at, joined, list_at, many_at, number_at, number_in, option_at, tag_at, time_at};
+ghost use Rattle.slate_objects.specs.Reading.{GivesDecoded, ReadsFront, bytes_at, joined, list_at, many_at, number_at, number_in, option_at, tag_at, time_at};
 ghost use Rattle.slate_objects.specs.Spelling.{digits, ByteFits, BytesFit, ListFits, NumberFits, OptionFits, TimeFits, byte_of, bytes_of, list_of, number, option_of, time};
 
 use crate::faults::{DecodeError, DecodeFault};
@@ -19,7 +19,7 @@ pub(crate) trait Format: Sized {
 
     /// Takes a value from the front of bytes. It shares the bytes, and reserves no memory by a count that it reads.
     fn read(alloc: Global, bytes: &mut Bytes) -> Result<Self, DecodeError>
-        ensures { Reads result bytes.new (read_at bytes.old) };
+        ensures { ReadsFront result bytes.new (read_at bytes.old) };
 
     /// Appends the bytes of a value.
     fn write(&self, out: &mut Vec<u8>) -> Result<(), NoMemory>
@@ -29,7 +29,7 @@ pub(crate) trait Format: Sized {
 /// Takes a tag from the front.
 #[tactic(auto, unfolding(crate::specs::Reading::tag_at))]
 pub(crate) fn read_tag(bytes: &mut Bytes) -> Result<u8, DecodeError>
-    ensures { Reads result bytes.new (tag_at bytes.old) }
+    ensures { ReadsFront result bytes.new (tag_at bytes.old) }
 {
     match bytes.try_get_u8() {
         Ok(tag) => Ok(tag),
@@ -42,7 +42,7 @@ const MOST: u8 = 10;
 
 /// Takes a number of at most so many bytes from the front.
 fn read_digits(bytes: &mut Bytes, left: u8) -> Result<u64, DecodeError>
-    ensures { Reads result bytes.new (number_in left bytes.old) }
+    ensures { ReadsFront result bytes.new (number_in left bytes.old) }
 {
     if left == 0 {
         return Err(DecodeError::Fault(DecodeFault::NotANumber));
@@ -59,7 +59,7 @@ fn read_digits(bytes: &mut Bytes, left: u8) -> Result<u64, DecodeError>
 /// The number with these lowest seven bits, and the others above.
 fn join(byte: u8, high: u64) -> Result<u64, DecodeError>
     requires { 128 ≤ byte }
-    ensures { Gives result (joined byte high) }
+    ensures { GivesDecoded result (joined byte high) }
 {
     if high == 0 || high >= 1 << 57 {
         return Err(DecodeError::Fault(DecodeFault::NotANumber));
@@ -70,7 +70,7 @@ fn join(byte: u8, high: u64) -> Result<u64, DecodeError>
 /// Takes a number from the front.
 #[tactic(auto, unfolding(crate::specs::Reading::number_at))]
 pub(crate) fn read_u64(bytes: &mut Bytes) -> Result<u64, DecodeError>
-    ensures { Reads result bytes.new (number_at bytes.old) }
+    ensures { ReadsFront result bytes.new (number_at bytes.old) }
 {
     read_digits(bytes, MOST)
 }
@@ -198,7 +198,7 @@ fn read_many<T: Format + Drop>(
     count: u64,
     bytes: &mut Bytes,
 ) -> Result<Seq<T>, DecodeError>
-    ensures { Reads result bytes.new (many_at T.read_at count bytes.old) }
+    ensures { ReadsFront result bytes.new (many_at T.read_at count bytes.old) }
 {
     let mut values = Vec::new(alloc);
     for _ in 0..count {

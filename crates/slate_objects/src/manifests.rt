@@ -2,7 +2,7 @@
 ghost use Rattle.std.specs.Prelude.{◌≡◌, ◌++◌, List, ℕ, OnOk, Result};
 ghost use Rattle.slate_objects.specs.Manifests.{CheckpointFits, FieldsFit, FlagFits, ManifestFits, NameFits, TableIdFits, UuidFits, field_parts, untracked_at, untracked_of};
 ghost use Rattle.slate_objects.specs.Manifests.{checkpoint_at, checkpoint_of, flag_at, flag_of, manifest_at, manifest_of, name_at, name_in, table_id_at, table_id_of, uuid_at, uuid_of};
-ghost use Rattle.slate_objects.specs.Reading.{Gives, Reads};
+ghost use Rattle.slate_objects.specs.Reading.{GivesDecoded, ReadsFront};
 ghost use Rattle.slate_objects.specs.Spelling.{bytes_of};
 
 use crate::faults::{DecodeError, DecodeFault};
@@ -61,7 +61,7 @@ impl Format for Uuid {
 /// The name that these bytes are.
 #[tactic(auto, unfolding(crate::specs::Manifests::name_in))]
 fn name_in(alloc: Global, bytes: &[u8]) -> Result<Name, DecodeError>
-    ensures { Gives result (name_in bytes.now) }
+    ensures { GivesDecoded result (name_in bytes.now) }
 {
     match std::str::from_utf8(bytes) {
         Ok(text) => Ok(Name::of(String::from_str(alloc, text)?)),
@@ -142,7 +142,7 @@ impl Format for Checkpoint {
 /// Takes the fields of a manifest but for its tracker from the front.
 #[tactic(auto, unfolding(crate::specs::Manifests::untracked_at))]
 pub(crate) fn read_untracked(alloc: Global, bytes: &mut Bytes) -> Result<Manifest, DecodeError>
-    ensures { Reads result bytes.new (untracked_at bytes.old) }
+    ensures { ReadsFront result bytes.new (untracked_at bytes.old) }
 {
     let writer_epoch = u64::read(alloc, bytes)?;
     let initialized = bool::read(alloc, bytes)?;

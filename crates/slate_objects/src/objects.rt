@@ -3,7 +3,7 @@ ghost use Rattle.std.specs.Prelude.{◌≡◌, Ok, IfOk};
 ghost use Rattle.slate_objects.specs.Batches.{batch_at, batch_of};
 ghost use Rattle.slate_objects.specs.Manifests.{untracked_at};
 ghost use Rattle.slate_objects.specs.Objects.{IsSpelling, log_bytes, log_in, manifest_bytes, manifest_in, manifest_kind, table_bytes, table_in, untracked_version, version};
-ghost use Rattle.slate_objects.specs.Reading.{Gives, list_at};
+ghost use Rattle.slate_objects.specs.Reading.{GivesDecoded, list_at};
 ghost use Rattle.slate_objects.specs.Sealing.{has_version, object_in, sealed};
 ghost use Rattle.slate_objects.specs.Spelling.{list_of};
 
@@ -51,7 +51,7 @@ pub fn encode_manifest(alloc: Global, manifest: &Manifest) -> Result<Vec<u8>, No
 /// share the bytes.
 #[tactic(auto, unfolding(crate::specs::Objects::manifest_in))]
 pub fn decode_manifest(alloc: Global, bytes: Bytes) -> Result<Manifest, DecodeError>
-    ensures read { Gives result (manifest_in bytes) }
+    ensures read { GivesDecoded result (manifest_in bytes) }
     ensures only { IfOk result (λ manifest. IsSpelling manifest bytes) }
 {
     if has_version(UNTRACKED_VERSION, &bytes) {
@@ -78,7 +78,7 @@ fn has_version(version: u32, bytes: &Bytes) -> bool
 /// The manifest of the earlier version that the bytes are.
 #[tactic(auto, unfolding(crate::specs::Sealing::object_in))]
 fn decode_untracked(alloc: Global, bytes: Bytes) -> Result<Manifest, DecodeError>
-    ensures read { Gives result (object_in untracked_at manifest_kind untracked_version bytes) }
+    ensures read { GivesDecoded result (object_in untracked_at manifest_kind untracked_version bytes) }
     ensures only { IfOk result (λ manifest. IsSpelling manifest bytes) }
 {
     let mut rest = open_body(MANIFEST, UNTRACKED_VERSION, bytes)?;
@@ -101,7 +101,7 @@ pub fn encode_log(alloc: Global, batches: &[Batch]) -> Result<Vec<u8>, NoMemory>
 /// says. Keys and values share the bytes.
 #[tactic(auto, unfolding(crate::specs::Objects::log_bytes, crate::specs::Objects::log_in))]
 pub fn decode_log(alloc: Global, bytes: Bytes) -> Result<Seq<Batch>, DecodeError>
-    ensures read { Gives result (log_in bytes) }
+    ensures read { GivesDecoded result (log_in bytes) }
     ensures only { IfOk result (λ batches. bytes ≡ log_bytes batches) }
 {
     decode_batches(alloc, LOG, bytes)
@@ -122,7 +122,7 @@ pub fn encode_table(alloc: Global, batches: &[Batch]) -> Result<Vec<u8>, NoMemor
 /// says. Keys and values share the bytes.
 #[tactic(auto, unfolding(crate::specs::Objects::table_bytes, crate::specs::Objects::table_in))]
 pub fn decode_table(alloc: Global, bytes: Bytes) -> Result<Seq<Batch>, DecodeError>
-    ensures read { Gives result (table_in bytes) }
+    ensures read { GivesDecoded result (table_in bytes) }
     ensures only { IfOk result (λ batches. bytes ≡ table_bytes batches) }
 {
     decode_batches(alloc, TABLE, bytes)
@@ -140,7 +140,7 @@ fn encode_batches(alloc: Global, kind: u32, batches: &[Batch]) -> Result<Vec<u8>
 
 /// The batches of the object of this kind that the bytes are.
 fn decode_batches(alloc: Global, kind: u32, bytes: Bytes) -> Result<Seq<Batch>, DecodeError>
-    ensures read { Gives result (object_in (list_at batch_at) kind version bytes) }
+    ensures read { GivesDecoded result (object_in (list_at batch_at) kind version bytes) }
     ensures only { IfOk result (λ batches. bytes ≡ sealed kind version (list_of batch_of batches)) }
 {
     open(alloc, kind, VERSION, bytes)

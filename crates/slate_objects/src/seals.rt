@@ -1,7 +1,7 @@
 // The head of an object, and whole objects.
 ghost use Rattle.std.specs.Prelude.{◌≡◌, IfOk, length, ◌<◌, ◌^◌, ◌++◌, OnOk};
 ghost use Rattle.slate_objects.specs.Checksum.{crc32};
-ghost use Rattle.slate_objects.specs.Reading.{Gives, IsBytes, Reads, word_at};
+ghost use Rattle.slate_objects.specs.Reading.{GivesDecoded, IsBytes, ReadsFront, word_at};
 ghost use Rattle.slate_objects.specs.Sealing.{body_in, checked, head_at, kind_at, object_in, sealed, version_at, whole};
 ghost use Rattle.slate_objects.specs.Spelling.{word};
 
@@ -25,7 +25,7 @@ pub(crate) struct Head {
 /// Takes a number of four bytes from the front.
 #[tactic(auto, unfolding(crate::specs::Reading::word_at))]
 fn read_u32(bytes: &mut Bytes) -> Result<u32, DecodeError>
-    ensures { Reads result bytes.new (word_at bytes.old) }
+    ensures { ReadsFront result bytes.new (word_at bytes.old) }
 {
     match bytes.try_get_u32() {
         Ok(number) => Ok(number),
@@ -36,7 +36,7 @@ fn read_u32(bytes: &mut Bytes) -> Result<u32, DecodeError>
 /// Takes the kind of an object from the front.
 #[tactic(auto, unfolding(crate::specs::Sealing::kind_at))]
 fn read_kind(kind: u32, bytes: &mut Bytes) -> Result<u32, DecodeError>
-    ensures { Reads result bytes.new (kind_at kind bytes.old) }
+    ensures { ReadsFront result bytes.new (kind_at kind bytes.old) }
 {
     let found = read_u32(bytes)?;
     if found == kind {
@@ -49,7 +49,7 @@ fn read_kind(kind: u32, bytes: &mut Bytes) -> Result<u32, DecodeError>
 /// Takes the version of an object from the front.
 #[tactic(auto, unfolding(crate::specs::Sealing::version_at))]
 fn read_version(version: u32, bytes: &mut Bytes) -> Result<u32, DecodeError>
-    ensures { Reads result bytes.new (version_at version bytes.old) }
+    ensures { ReadsFront result bytes.new (version_at version bytes.old) }
 {
     let found = read_u32(bytes)?;
     if found == version {
@@ -63,7 +63,7 @@ impl Head {
     /// Takes the head of an object of this kind and version from the front.
     #[tactic(auto, unfolding(crate::specs::Sealing::head_at))]
     fn read(kind: u32, version: u32, bytes: &mut Bytes) -> Result<Head, DecodeError>
-        ensures { Reads result bytes.new (head_at kind version bytes.old) }
+        ensures { ReadsFront result bytes.new (head_at kind version bytes.old) }
     {
         read_kind(kind, bytes)?;
         read_version(version, bytes)?;
@@ -75,7 +75,7 @@ impl Head {
     /// Whether a body is the one that the head speaks of.
     #[tactic(auto, unfolding(crate::specs::Sealing::checked))]
     fn check(&self, body: &[u8]) -> Result<(), DecodeError>
-        ensures { Gives result (checked self.now body.now) }
+        ensures { GivesDecoded result (checked self.now body.now) }
     {
         let length = body.len() as u64;
         if length < self.length {
@@ -100,7 +100,7 @@ fn note_bytes(bytes: &[u8])
 /// The body of an object of this kind and version.
 #[tactic(auto, unfolding(crate::specs::Sealing::body_in))]
 pub(crate) fn open_body(kind: u32, version: u32, bytes: Bytes) -> Result<Bytes, DecodeError>
-    ensures read { Gives result (body_in kind version bytes) }
+    ensures read { GivesDecoded result (body_in kind version bytes) }
     ensures are_bytes { IsBytes bytes }
 {
     note_bytes(bytes.as_slice());
@@ -113,7 +113,7 @@ pub(crate) fn open_body(kind: u32, version: u32, bytes: Bytes) -> Result<Bytes, 
 /// What was read, where these bytes are left after it, which is to be none.
 #[tactic(auto, unfolding(crate::specs::Sealing::whole))]
 pub(crate) fn whole<T: Drop>(value: T, rest: &Bytes) -> Result<T, DecodeError>
-    ensures { Gives result (whole (value, rest.now)) }
+    ensures { GivesDecoded result (whole (value, rest.now)) }
 {
     if rest.is_empty() {
         Ok(value)
@@ -130,7 +130,7 @@ pub(crate) fn open<T: Format + Drop>(
     version: u32,
     bytes: Bytes,
 ) -> Result<T, DecodeError>
-    ensures read { Gives result (object_in T.read_at kind version bytes) }
+    ensures read { GivesDecoded result (object_in T.read_at kind version bytes) }
     ensures are_bytes { IsBytes bytes }
 {
     let mut rest = open_body(kind, version, bytes)?;

@@ -7,8 +7,8 @@ use mathlib.Core.List.{IsPrefix}
 use prog.Atomic.{either}
 use Rattle.logbook.specs.Pages.{Cell, cell, keeps, gives, adds, no_nib, nib, may_make, step, Away, Moves, Goes}
 use Rattle.slate_published.specs.Published.{Published}
-use Rattle.slate_published.specs.States.{AreRising, last_of, nothing_published}
-use Rattle.slate_published.specs.Adding.{homes, aways, cells_of, IsKept, right_after, AddsCell, Adds, SeesAll}
+use Rattle.slate_published.specs.States.{NeverFall, last_of, nothing_published}
+use Rattle.slate_published.specs.Adding.{homes, aways, cells_of, IsKeptBook, right_after, AddsCell, AddsState, SeesAll}
 use Rattle.slate_published.proofs.Prefixes.{prefix_whole, prefix_length}
 
 abbrev pub shown : List Published → List Published
@@ -27,7 +27,7 @@ last_place before (x ∷ y ∷ ys) d some =
     let rest = last_place x (y ∷ ys) d (omega arith) in
     ap (λ k. get_or (x ∷ y ∷ ys) k d) last ∙ (ap (λ k. get_or (y ∷ ys) k d) (sym same) ∙ rest)
 
-pub rising_push : (xs : List Published) (s : Published) → AreRising xs → (last_of xs).number ≤ s.number → AreRising (xs ++ s ∷ [])
+pub rising_push : (xs : List Published) (s : Published) → NeverFall xs → (last_of xs).number ≤ s.number → NeverFall (xs ++ s ∷ [])
 rising_push xs s rising at_most =
     IsNonDecreasingBy-push (λ (p : Published). p.number) xs s rising
     (λ d some. subst (λ (p : Published). p.number ≤ s.number) (sym (last_place nothing_published xs d some)) at_most)
@@ -74,7 +74,7 @@ same_words list away found is =
     let len : length list ≡ length (list ++ []) = ap length (sym (append-nil list)) in
     λ i. (is i, true) ∷ (0, true) ∷ homes (len i) (aways away)
 
-kept_same : (list : List Published) (away found : ℕ) → found ≡ away → away ≤ 2 → (0 < length list → 0 < away) → AreRising list → IsKept ((found, true) ∷ (0, true) ∷ homes (length list) (aways away)) (list ++ [])
+kept_same : (list : List Published) (away found : ℕ) → found ≡ away → away ≤ 2 → (0 < length list → 0 < away) → NeverFall list → IsKeptBook ((found, true) ∷ (0, true) ∷ homes (length list) (aways away)) (list ++ [])
 kept_same list away found is few held rising =
     let all : list ++ [] ≡ list = append-nil list in
     record {
@@ -82,7 +82,7 @@ kept_same list away found is few held rising =
       words = same_words list away found is;
       few = few;
       held = subst (λ (l : List Published). 0 < length l → 0 < away) (sym all) held;
-      rising = subst AreRising (sym all) rising;
+      rising = subst NeverFall (sym all) rising;
     }
 
 -- without a cell there is no state
@@ -90,9 +90,9 @@ without_cell : (list : List Published) (away : ℕ) → (0 < length list → 0 <
 without_cell [] away held none = refl
 without_cell (x ∷ xs) away held none = let some : 0 < away = held (omega arith) in absurd (omega arith)
 
-cell_goes : (v list : List Published) (s : Published) (old away : ℕ) → old ≤ 1 → away ≤ 2 → (0 < length list → 0 < away) → AreRising list
+cell_goes : (v list : List Published) (s : Published) (old away : ℕ) → old ≤ 1 → away ≤ 2 → (0 < length list → 0 < away) → NeverFall list
     → (b : Bool) → (away == old) ≡ b
-    → Goes IsKept shown moved 0 (v, (no_nib, None)) (λ n. either (n == old) (old + 1) n) (AddsCell (step 0 old (old + 1) s) (v, (no_nib, None))) (cells_of (length list) away) list
+    → Goes IsKeptBook shown moved 0 (v, (no_nib, None)) (λ n. either (n == old) (old + 1) n) (AddsCell (step 0 old (old + 1) s) (v, (no_nib, None))) (cells_of (length list) away) list
 cell_goes v list s old away low few held rising true is =
     let here : away ≡ old = grind (arith, nat_tests) in
     let all : list ++ [] ≡ list = append-nil list in
@@ -110,7 +110,7 @@ cell_goes v list s old away low few held rising true is =
         words = λ i. (n i, true) ∷ (0, true) ∷ cells i;
         few = omega arith;
         held = λ _. omega arith;
-        rising = subst AreRising (sym all) rising;
+        rising = subst NeverFall (sym all) rising;
       },
       inl (refl, refl),
       rw is (ap (λ k. nib may_make k 0) key, (λ none. all ∙ without_cell list away held (here ∙ none))),
@@ -121,9 +121,9 @@ cell_goes v list s old away low few held rising false is =
 
 -- whatever the list is, a cell is added, or another head is found
 pub cell_moves : (v : List Published) (s : Published) (old : ℕ) → old ≤ 1
-    → Moves IsKept shown moved 0 (v, (no_nib, None)) (λ n. either (n == old) (old + 1) n) (AddsCell (step 0 old (old + 1) s) (v, (no_nib, None)))
+    → Moves IsKeptBook shown moved 0 (v, (no_nib, None)) (λ n. either (n == old) (old + 1) n) (AddsCell (step 0 old (old + 1) s) (v, (no_nib, None)))
 cell_moves v s old low cs list kept pre away =
-    let P : List Cell → Type 0 = λ c. (0 < length c) × ((cell c 0).1 ≡ true) × Goes IsKept shown moved 0 (v, (no_nib, None)) (λ n. either (n == old) (old + 1) n) (AddsCell (step 0 old (old + 1) s) (v, (no_nib, None))) c list in
+    let P : List Cell → Type 0 = λ c. (0 < length c) × ((cell c 0).1 ≡ true) × Goes IsKeptBook shown moved 0 (v, (no_nib, None)) (λ n. either (n == old) (old + 1) n) (AddsCell (step 0 old (old + 1) s) (v, (no_nib, None))) c list in
     subst P (sym kept.words) (omega arith, refl, cell_goes v list s old kept.away low kept.few kept.held kept.rising (kept.away == old) refl)
 
 -- the first cell that isn't at home comes home, and the state is added
@@ -137,9 +137,9 @@ added_cells list s n away found len two one =
     ap (λ k. slice_set ((found, true) ∷ (0, true) ∷ homes (length list) (aways away)) k (0, true)) place ∙ (λ i. (one i, true) ∷ (0, true) ∷ home i)
 
 adds_goes : (u v list : List Published) (s : Published) (n away : ℕ) → IsPrefix u v → length u ≡ n → (last_of u).number ≤ s.number → IsPrefix v list → length list ≤ n
-    → away ≤ 2 → (0 < length list → 0 < away) → AreRising list
+    → away ≤ 2 → (0 < length list → 0 < away) → NeverFall list
     → (b : Bool) → (away == 2) ≡ b
-    → Goes IsKept shown moved 0 (v, (right_after n, None)) (λ k. either (k == 2) 1 k) (Adds (step 0 2 1 s) (v, (right_after n, None))) (cells_of (length list) away) list
+    → Goes IsKeptBook shown moved 0 (v, (right_after n, None)) (λ k. either (k == 2) 1 k) (AddsState (step 0 2 1 s) (v, (right_after n, None))) (cells_of (length list) away) list
 adds_goes u v list s n away first len rises pre most few held rising true is =
     let two : away ≡ 2 = grind (arith, nat_tests) in
     let low = prefix_length u v first in
@@ -147,7 +147,7 @@ adds_goes u v list s n away first len rises pre most few held rising true is =
     let whole : v ≡ list = prefix_whole v list pre (omega arith) in
     let known : u ≡ v = prefix_whole u v first (omega arith) in
     let rises' : (last_of list).number ≤ s.number = subst (λ (l : List Published). (last_of l).number ≤ s.number) (known ∙ whole) rises in
-    let rising' : AreRising (list ++ s ∷ []) = rising_push list s rising rises' in
+    let rising' : NeverFall (list ++ s ∷ []) = rising_push list s rising rises' in
     let one : either (away == 2) 1 away ≡ 1 = rw is refl in (
       gives,
       s ∷ [],
@@ -169,9 +169,9 @@ adds_goes u v list s n away first len rises pre most few held rising false is =
 
 -- whatever the list is, who has the right to add to it adds a state to all that is known, or finds another head and keeps the right
 pub adds_moves : (u v : List Published) (s : Published) (n : ℕ) → IsPrefix u v → length u ≡ n → (last_of u).number ≤ s.number
-    → Moves IsKept shown moved 0 (v, (right_after n, None)) (λ k. either (k == 2) 1 k) (Adds (step 0 2 1 s) (v, (right_after n, None)))
+    → Moves IsKeptBook shown moved 0 (v, (right_after n, None)) (λ k. either (k == 2) 1 k) (AddsState (step 0 2 1 s) (v, (right_after n, None)))
 adds_moves u v s n first len rises cs list kept pre away =
-    let P : List Cell → Type 0 = λ c. Away (right_after n) c → (0 < length c) × ((cell c 0).1 ≡ true) × Goes IsKept shown moved 0 (v, (right_after n, None)) (λ k. either (k == 2) 1 k) (Adds (step 0 2 1 s) (v, (right_after n, None))) c list in
+    let P : List Cell → Type 0 = λ c. Away (right_after n) c → (0 < length c) × ((cell c 0).1 ≡ true) × Goes IsKeptBook shown moved 0 (v, (right_after n, None)) (λ k. either (k == 2) 1 k) (AddsState (step 0 2 1 s) (v, (right_after n, None))) c list in
     subst P (sym kept.words)
     (λ right. (omega arith, refl, adds_goes u v list s n kept.away first len rises pre (rights_end n (length list) kept.away right) kept.few kept.held kept.rising (kept.away == 2) refl)) away
 
@@ -181,9 +181,9 @@ either_same false n is = refl
 
 -- whatever the list is, who has the right to add to it sees all of it
 pub sees_moves : (v : List Published) (s : Published) (n : ℕ)
-    → Moves IsKept shown moved 0 (v, (right_after n, None)) (λ k. either (k == 0) 0 k) (SeesAll (step 0 0 0 s) (v, (right_after n, None)))
+    → Moves IsKeptBook shown moved 0 (v, (right_after n, None)) (λ k. either (k == 0) 0 k) (SeesAll (step 0 0 0 s) (v, (right_after n, None)))
 sees_moves v s n cs list kept pre away =
-    let P : List Cell → Type 0 = λ c. Away (right_after n) c → (0 < length c) × ((cell c 0).1 ≡ true) × Goes IsKept shown moved 0 (v, (right_after n, None)) (λ k. either (k == 0) 0 k) (SeesAll (step 0 0 0 s) (v, (right_after n, None))) c list in
+    let P : List Cell → Type 0 = λ c. Away (right_after n) c → (0 < length c) × ((cell c 0).1 ≡ true) × Goes IsKeptBook shown moved 0 (v, (right_after n, None)) (λ k. either (k == 0) 0 k) (SeesAll (step 0 0 0 s) (v, (right_after n, None))) c list in
     let same : either (kept.away == 0) 0 kept.away ≡ kept.away = either_same (kept.away == 0) kept.away refl in
     subst P (sym kept.words)
     (λ right. let most = rights_end n (length list) kept.away right in let all : length (list ++ []) ≡ length list = ap length (append-nil list) in

@@ -7,14 +7,14 @@ use Rattle.left_right.specs.Register.{Admits, TurnsAt, Forks, Merges}
 use Rattle.atomic_table.proofs.Lists.{at_set, at_snoc}
 use Rattle.logbook.specs.Pages.{Book}
 use Rattle.slate_published.specs.Beginnings.{Beginning}
-use Rattle.slate_published.specs.Origins.{AreOfOne, Shows}
+use Rattle.slate_published.specs.Origins.{AreOfOne, ShowsOrigin}
 use Rattle.slate_published.specs.Copies.{AreOfOrigin, origin_after}
 
 pub admits : Admits AreOfOne None
 admits shown views kept seat origin at = ⊎_elim (kept seat origin) (λ (e : None ≡ Some origin). absurd (cc e)) (at_snoc views None (Some origin) seat at)
 
 -- a copy of the same origin is shown
-pub shows : (seat : ℕ) (known : Option Book) (x y : Beginning) → y.origin ≡ x.origin → TurnsAt AreOfOne seat known x y Shows
+pub shows : (seat : ℕ) (known : Option Book) (x y : Beginning) → y.origin ≡ x.origin → TurnsAt AreOfOne seat known x y ShowsOrigin
 shows seat known x y same views kept at = (
   Some y.origin,
   (λ j origin there. ⊎_elim (λ (t : (j ≡ seat) × (Some y.origin ≡ Some origin)). cc (t.1)) (λ (t : (j ≢ seat) × (get_elem? views j ≡ some (Some origin))). kept j origin t.1 ∙ sym same)
@@ -68,7 +68,7 @@ waits_after (Err _) origin edition waiting new same waits is = ap (origin_after 
 pub shows_after : {A E : Type 0} (r : Result A E) (origin : Book) (known known' : Option Book) (shown shown' : Beginning) (waiting waiting' : List Beginning)
     → AreOfOrigin origin shown waiting
     → MatchResult r (λ _. (shown'.origin ≡ origin_after shown.origin waiting) × (waiting' ≡ [])) (λ _. (shown' ≡ shown) × (waiting' ≡ waiting))
-    → MatchResult r (λ _. Shows known shown shown' known') (λ _. known' ≡ known)
+    → MatchResult r (λ _. ShowsOrigin known shown shown' known') (λ _. known' ≡ known)
     → AreOfOrigin origin shown' waiting' × MatchResult r (λ _. known' ≡ Some origin) (λ _. known' ≡ known)
 shows_after (Ok _) origin known known' shown shown' waiting waiting' before values rule =
     let same : shown'.origin ≡ origin = origin_of_next origin shown.origin shown'.origin waiting before.shows before.waits values.0 ∙ before.shows in

@@ -6,7 +6,7 @@
 use Rattle.std.specs.Prelude.{ℕ, zero, suc, ◌≡◌, ◌==◌, ◌+◌, ◌<◌, ◌≤◌, true, false, List, [], ◌∷◌, ◌++◌, length, MatchBool}
 use Rattle.logbook.specs.Pages.{Cell, Step, View, Book, Named, Nib, nib, may_make, may_write}
 use Rattle.slate_published.specs.Published.{Published}
-use Rattle.slate_published.specs.States.{AreRising}
+use Rattle.slate_published.specs.States.{NeverFall}
 
 -- so many cells at home, before others
 abbrev pub homes : ℕ → List Cell → List Cell
@@ -23,12 +23,12 @@ abbrev pub cells_of : ℕ → ℕ → List Cell
 cells_of home away = (away, true) ∷ (0, true) ∷ homes home (aways away)
 
 -- A list that has a state has a cell that isn't at home. Numbers never fall along it.
-pub record IsKept (cells : List Cell) (list : List Published) : Type 0 where
+pub record IsKeptBook (cells : List Cell) (list : List Published) : Type 0 where
   pub away : ℕ
   pub words : cells ≡ cells_of (length list) away
   pub few : away ≤ 2
   pub held : 0 < length list → 0 < away
-  pub rising : AreRising list
+  pub rising : NeverFall list
 
 abbrev pub head_of : Book → Named
 head_of book = record { tracked = true; key = 0; book = book }
@@ -42,8 +42,8 @@ abbrev pub AddsCell : Step Published → View Published ℕ → ℕ → View Pub
 AddsCell s v found w = MatchBool (found == s.old) ((w.1.0 ≡ nib may_make ((length w.0 + s.old) + 2) 0) × (s.old ≡ 0 → w.0 ≡ [])) (Unit {0})
 
 -- where the head was as expected, the state was added to all that was known, which was all that there was; else the right stays
-abbrev pub Adds : Step Published → View Published ℕ → ℕ → View Published ℕ → Type 0
-Adds s v found w = MatchBool (found == s.old) ((length v.0 + 2 ≡ v.1.0.key) × (w.0 ≡ v.0 ++ s.ask ∷ []) × AreRising w.0) (w.1.0 ≡ v.1.0)
+abbrev pub AddsState : Step Published → View Published ℕ → ℕ → View Published ℕ → Type 0
+AddsState s v found w = MatchBool (found == s.old) ((length v.0 + 2 ≡ v.1.0.key) × (w.0 ≡ v.0 ++ s.ask ∷ []) × NeverFall w.0) (w.1.0 ≡ v.1.0)
 
 -- who has the right to add the next state sees the whole list, and keeps the right
 abbrev pub SeesAll : Step Published → View Published ℕ → ℕ → View Published ℕ → Type 0

@@ -10,5 +10,5 @@ abbrev pub AreOfOne : Beginning → List (Option Book) → Type 0
 AreOfOne shown views = (seat : ℕ) (origin : Book) → get_elem? views seat ≡ some (Some origin) → origin ≡ shown.origin
 
 -- the seat knows the origin of what is shown afterwards; what it knew was that of what was shown before
-abbrev pub Shows : Option Book → Beginning → Beginning → Option Book → Type 0
-Shows known before after knows = (knows ≡ Some after.origin) × IfSome known (λ origin. origin ≡ before.origin)
+abbrev pub ShowsOrigin : Option Book → Beginning → Beginning → Option Book → Type 0
+ShowsOrigin known before after knows = (knows ≡ Some after.origin) × IfSome known (λ origin. origin ≡ before.origin)

@@ -13,5 +13,5 @@ abbrev pub last_of : List Published → Published
 last_of states = fold (λ (before state : Published). state) nothing_published states
 
 -- the numbers never fall along a list
-abbrev pub AreRising : List Published → Type 0
-AreRising states = IsNonDecreasingBy (λ (state : Published). state.number) states
+abbrev pub NeverFall : List Published → Type 0
+NeverFall states = IsNonDecreasingBy (λ (state : Published). state.number) states

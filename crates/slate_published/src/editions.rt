@@ -2,7 +2,7 @@
 ghost use Rattle.std.specs.Prelude.{◌≡◌, IfOk, MatchResult, IsOk};
 ghost use Rattle.std.specs.Arc.{arc_value};
 ghost use Rattle.slate_published.specs.States.{last_of};
-ghost use Rattle.slate_published.specs.Origins.{AreOfOne, Shows};
+ghost use Rattle.slate_published.specs.Origins.{AreOfOne, ShowsOrigin};
 
 use crate::PublishedState;
 use crate::fronts::Front;
@@ -115,7 +115,7 @@ impl Protocol<Edition, Option<Origin>> for SameOrigin {
 pub(crate) struct Show;
 
 impl Outcome<Edition, Option<Origin>> for Show {
-    ghost then = { Shows };
+    ghost then = { ShowsOrigin };
 }
 
 /// The writer tells a reader of which list the copies are.

@@ -1,7 +1,7 @@
 // The list of the states that are published, which exists in proofs alone, and tokens that know a beginning of it.
 ghost use Rattle.std.specs.Prelude.{◌≡◌, length, MatchBool};
 ghost use mathlib.Core.List.{IsPrefix};
-ghost use Rattle.slate_published.specs.States.{AreRising};
+ghost use Rattle.slate_published.specs.States.{NeverFall};
 
 use crate::PublishedState;
 use logbook::{Gain, Plain, Play, Rule, Seen};
@@ -13,9 +13,9 @@ pub(crate) struct NumbersNeverFall;
 impl Rule<PublishedState, u64> for NumbersNeverFall {
     ghost use Rattle.std.specs.Prelude.{[]};
     ghost use base.Fml.{ftrue};
-    ghost use Rattle.slate_published.specs.Adding.{IsKept};
+    ghost use Rattle.slate_published.specs.Adding.{IsKeptBook};
 
-    ghost holds = { λ cells list. IsKept cells list };
+    ghost holds = { λ cells list. IsKeptBook cells list };
 
     ghost first = { [] };
 
@@ -59,9 +59,9 @@ impl Plain<(), PublishedState, u64> for AddCell {
 pub(crate) struct Add;
 
 impl Play<PublishedState, u64> for Add {
-    ghost use Rattle.slate_published.specs.Adding.{Adds};
+    ghost use Rattle.slate_published.specs.Adding.{AddsState};
 
-    ghost then = { Adds };
+    ghost then = { AddsState };
 }
 
 impl Plain<PublishedState, PublishedState, u64> for Add {
@@ -93,21 +93,21 @@ pub(crate) struct Front {
 
 impl Model for Front {
     ghost use Rattle.std.specs.Prelude.{◌≡◌, length};
-    ghost use Rattle.slate_published.specs.States.{AreRising};
+    ghost use Rattle.slate_published.specs.States.{NeverFall};
     ghost use Rattle.slate_published.specs.Beginnings.{Beginning};
 
     ghost Value = { Beginning };
 
     ghost view = { λ f. record { origin = f.seen.book; states = f.seen.log } };
 
-    ghost invariant = { λ f. (f.count ≡ length f.seen.log) × AreRising f.seen.log };
+    ghost invariant = { λ f. (f.count ≡ length f.seen.log) × NeverFall f.seen.log };
 }
 
 impl Front {
     /// So many states, which a token knows.
     pub(crate) fn of(count: u64, seen: Token) -> Front
         requires count { count ≡ length seen.log }
-        requires rising { AreRising seen.log }
+        requires rising { NeverFall seen.log }
         ensures { result ≡ record { origin = seen.book; states = seen.log } }
     {
         Front { count, seen }
@@ -116,7 +116,7 @@ impl Front {
     /// How many states are known.
     pub(crate) fn count(&self) -> u64
         ensures count { result ≡ length self.now.states }
-        ensures rising { AreRising self.now.states }
+        ensures rising { NeverFall self.now.states }
     {
         self.count
     }

@@ -2,7 +2,7 @@
 ghost use Rattle.std.specs.Prelude.{◌≡◌, ◌+◌, ◌-◌, ◌^◌, ◌<◌, ◌≤◌, ◌++◌, ◌∷◌, [], length, IfSome, MatchBool};
 ghost use mathlib.Core.List.{IsPrefix};
 ghost use Rattle.logbook.specs.Pages.{nib, may_write};
-ghost use Rattle.slate_published.specs.States.{AreRising, last_of};
+ghost use Rattle.slate_published.specs.States.{NeverFall, last_of};
 ghost use Rattle.slate_published.specs.Adding.{head_of, right_after};
 
 use crate::PublishedState;
@@ -121,7 +121,7 @@ fn add_state(
     requires right { (right.old.book ≡ front.now.origin) × (right.old.nib ≡ right_after (length front.now.states)) }
     requires rises { (last_of front.now.states).number ≤ state.now.number }
     ensures books { (seen.new.book ≡ seen.old.book) × (right.new.book ≡ right.old.book) }
-    ensures added { MatchBool result ((length seen.old.log ≡ length front.now.states) × (seen.new.log ≡ front.now.states ++ state.now ∷ []) × AreRising seen.new.log) (right.new.nib ≡ right.old.nib) }
+    ensures added { MatchBool result ((length seen.old.log ≡ length front.now.states) × (seen.new.log ≡ front.now.states ++ state.now ∷ []) × NeverFall seen.new.log) (right.new.nib ≡ right.old.nib) }
 {
     let mut offer: Plain = seen.plain::<Nothing, PublishedState, Add>(state);
     head.compare_exchange::<Add, Nothing>(2, 1, seen, &mut offer, right) == 2

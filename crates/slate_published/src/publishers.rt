@@ -3,7 +3,7 @@ ghost use Rattle.std.specs.Prelude.{◌≡◌, ◌-◌, ◌^◌, ◌<◌, ◌≤
 ghost use Rattle.std.specs.Arc.{arc_value};
 ghost use mathlib.Core.List.{IsPrefix};
 ghost use Rattle.left_right.specs.Sides.{view as known_at};
-ghost use Rattle.slate_published.specs.States.{AreRising, last_of};
+ghost use Rattle.slate_published.specs.States.{NeverFall, last_of};
 ghost use Rattle.slate_published.specs.Copies.{AreOfOrigin};
 
 use crate::editions::{Edition, Origin, SameOrigin, Show};
@@ -58,7 +58,7 @@ impl FollowerPublisher {
     pub fn count(&self) -> u64
         ensures count { result ≡ length self.now.states }
         // Numbers never fall along what was published.
-        ensures rising { AreRising self.now.states }
+        ensures rising { NeverFall self.now.states }
     {
         self.list.front().count()
     }

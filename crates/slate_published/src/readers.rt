@@ -4,7 +4,7 @@ ghost use Rattle.std.specs.Borrow.{sem, follows_so};
 ghost use mathlib.Core.List.{IsPrefix};
 ghost use mathlib.Core.Option.{none};
 ghost use Rattle.left_right.specs.Sides.{view as known_at};
-ghost use Rattle.slate_published.specs.States.{AreRising};
+ghost use Rattle.slate_published.specs.States.{NeverFall};
 
 use crate::ReaderView;
 use crate::editions::{Edition, Origin, SameOrigin, Show};
@@ -92,7 +92,7 @@ impl FollowerReader {
     pub fn count(&self) -> u64
         ensures count { result ≡ length self.now.states }
         // Numbers never fall along what it has seen.
-        ensures rising { AreRising self.now.states }
+        ensures rising { NeverFall self.now.states }
     {
         self.edition.front().count()
     }

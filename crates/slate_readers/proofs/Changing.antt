@@ -14,7 +14,7 @@ use Rattle.slate_model.proofs.Prefixes.{prefix-then, up_to-end}
 use Rattle.slate_live.specs.Rising.{FollowerRises}
 use Rattle.slate_live.specs.Steps.{Step, last_world}
 use Rattle.slate_live.specs.World.{World}
-use Rattle.slate_readers.specs.Changes.{AreAlike, AreChanges, IsLast, IsShown, Shows, first_reader, first_state, states_along}
+use Rattle.slate_readers.specs.Changes.{AreAlike, AreChanges, IsLast, IsShown, ShowsFirst, first_reader, first_state, states_along}
 use Rattle.slate_readers.specs.Published.{first_number}
 use Rattle.slate_live.specs.Publishing.{seen_state}
 
@@ -105,7 +105,7 @@ changed before state states states' differs more = record {
 
 -- there was a reader
 went-on : (stored stored' : Line) (f g : Follower) (states states' : List Published) → IsPrefix f.line stored → IsPrefix stored stored' → FollowerRises f g →
-    IsLast states (Some (seen_state stored f)) → Shows (Some (seen_state stored' g)) states states' → Follows (Some (seen_state stored f)) (Some (seen_state stored' g)) states states'
+    IsLast states (Some (seen_state stored f)) → ShowsFirst (Some (seen_state stored' g)) states states' → Follows (Some (seen_state stored f)) (Some (seen_state stored' g)) states states'
 went-on stored stored' f g states states' begins grows rises last shows =
     let old = seen_state stored f in
     let new = seen_state stored' g in
@@ -125,7 +125,7 @@ went-on stored stored' f g states states' begins grows rises last shows =
     ]
 
 -- there is a first one
-was-opened : (new : Published) (states states' : List Published) → states ≡ [] → Shows (Some new) states states' → Follows None (Some new) states states'
+was-opened : (new : Published) (states states' : List Published) → states ≡ [] → ShowsFirst (Some new) states states' → Follows None (Some new) states states'
 was-opened new states states' none shows =
     let empty : length states ≡ 0 = ap length none in
     elim shows [
@@ -141,7 +141,7 @@ was-opened new states states' none shows =
 
 pub follows : (stored stored' : Line) (old new : Option Follower) (states states' : List Published) →
     ((f : Follower) → old ≡ Some f → IsPrefix f.line stored) → IsPrefix stored stored' → ((f : Follower) → old ≡ Some f → (g : Follower) × (new ≡ Some g) × FollowerRises f g) →
-    IsLast states (option_map (seen_state stored) old) → Shows (option_map (seen_state stored') new) states states' →
+    IsLast states (option_map (seen_state stored) old) → ShowsFirst (option_map (seen_state stored') new) states states' →
     Follows (option_map (seen_state stored) old) (option_map (seen_state stored') new) states states'
 follows stored stored' None None states states' begins grows rises last shows = stays None None states states' last refl shows
 follows stored stored' None (Some g) states states' begins grows rises last shows = was-opened (seen_state stored' g) states states' last shows

@@ -18,7 +18,7 @@ use Rattle.slate_live.specs.Steps.{Step, last_world}
 use Rattle.slate_live.specs.Valid.{Link}
 use Rattle.slate_live.specs.World.{World, start}
 use Rattle.slate_readers.specs.Aired.{Aired}
-use Rattle.slate_readers.specs.Changes.{AreChanges, IsLast, NoneBelow, Shows, first_reader, first_state, states_along}
+use Rattle.slate_readers.specs.Changes.{AreChanges, IsLast, NoneBelow, ShowsFirst, first_reader, first_state, states_along}
 use Rattle.slate_readers.specs.Published.{LeadsPublished, first_number}
 use Rattle.slate_live.specs.Running.{EachIsDone, EachLeadsOn, HaveLed, NoneHasLed, TheyLead, step_to}
 use Rattle.slate_readers.proofs.Changing.{Follows, final-along, follows, last-number}
@@ -57,7 +57,7 @@ pub publishing-next : EachLeadsOn → (settings : Settings) (before : Objects) (
     Link settings (last_world (start before faults) p.steps) command reply w → Represents live' store' w → AllInSegments settings.extractor w →
     (NoneBelow aired.place live'.objects → NoneBelow aired'.place live'.objects) →
     (aired'.whole ≡ true → aired.whole ≡ true) →
-    (NoneBelow aired.place live'.objects → aired'.whole ≡ true → Shows (first_state w) aired.list.states aired'.list.states) →
+    (NoneBelow aired.place live'.objects → aired'.whole ≡ true → ShowsFirst (first_state w) aired.list.states aired'.list.states) →
     IsPublishing settings before faults (commands ++ command ∷ []) (replies ++ reply ∷ []) live' store' aired'
 publishing-next each settings before faults commands replies live store aired p command reply w live' store' aired' link stands segments place whole shows =
     let first : World = start before faults in

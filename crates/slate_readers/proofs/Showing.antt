@@ -17,21 +17,21 @@ use Rattle.slate_live.specs.Publishing.{reader_of, seen_at, seen_state}
 use Rattle.slate_live.specs.Represents.{Represents}
 use Rattle.slate_live.specs.State.{Live}
 use Rattle.slate_live.specs.World.{World}
-use Rattle.slate_readers.specs.Changes.{IsShown, NoneBelow, Shows, first_reader, first_state}
+use Rattle.slate_readers.specs.Changes.{IsShown, NoneBelow, ShowsFirst, first_reader, first_state}
 use Rattle.slate_readers.proofs.Firsts.{first-found, first-none, none-world}
 
 -- ---- the cases of what is published
-pub shows-none : (seen : Option Published) (states states' : List Published) → None ≡ seen → states' ≡ states → Shows seen states states'
-shows-none seen states states' is same = subst (λ s. Shows s states states') is same
+pub shows-none : (seen : Option Published) (states states' : List Published) → None ≡ seen → states' ≡ states → ShowsFirst seen states states'
+shows-none seen states states' is same = subst (λ s. ShowsFirst s states states') is same
 
-pub shows-same : (state : Published) (seen : Option Published) (states states' : List Published) → Some state ≡ seen → IsShown state states → states' ≡ states → Shows seen states states'
-shows-same state seen states states' is shown same = subst (λ s. Shows s states states') is (inl (shown, same))
+pub shows-same : (state : Published) (seen : Option Published) (states states' : List Published) → Some state ≡ seen → IsShown state states → states' ≡ states → ShowsFirst seen states states'
+shows-same state seen states states' is shown same = subst (λ s. ShowsFirst s states states') is (inl (shown, same))
 
-pub shows-lower : (state : Published) (seen : Option Published) (states states' : List Published) → Some state ≡ seen → state.number < (last_of states).number → states' ≡ states → Shows seen states states'
-shows-lower state seen states states' is lower same = subst (λ s. Shows s states states') is (inr (inl (lower, same)))
+pub shows-lower : (state : Published) (seen : Option Published) (states states' : List Published) → Some state ≡ seen → state.number < (last_of states).number → states' ≡ states → ShowsFirst seen states states'
+shows-lower state seen states states' is lower same = subst (λ s. ShowsFirst s states states') is (inr (inl (lower, same)))
 
-pub shows-more : (state : Published) (seen : Option Published) (states states' : List Published) → Some state ≡ seen → (IsShown state states → ⊥) → states' ≡ states ++ state ∷ [] → Shows seen states states'
-shows-more state seen states states' is differs more = subst (λ s. Shows s states states') is (inr (inr (differs, more)))
+pub shows-more : (state : Published) (seen : Option Published) (states states' : List Published) → Some state ≡ seen → (IsShown state states → ⊥) → states' ≡ states ++ state ∷ [] → ShowsFirst seen states states'
+shows-more state seen states states' is differs more = subst (λ s. ShowsFirst s states states') is (inr (inr (differs, more)))
 
 -- ---- the first reader
 a-reader : (object : Option Object) (reader : Follower) → Some reader ≡ reader_of (option_map kept object) → (f : Follower) × (reader_of object ≡ Some f)

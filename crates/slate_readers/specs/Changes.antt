@@ -50,9 +50,9 @@ abbrev pub IsShown : Published → List Published → Type 0
 IsShown state states = (0 < length states) × AreAlike state (last_of states)
 
 -- what is published where the first reader sees this: it, unless it is as the last one, or has a lower number
-abbrev pub Shows : Option Published → (states states' : List Published) → Type 0
-Shows None states states' = states' ≡ states
-Shows (Some state) states states' =
+abbrev pub ShowsFirst : Option Published → (states states' : List Published) → Type 0
+ShowsFirst None states states' = states' ≡ states
+ShowsFirst (Some state) states states' =
     (IsShown state states × (states' ≡ states))
     ⊎ (((state.number < (last_of states).number) × (states' ≡ states))
     ⊎ ((IsShown state states → ⊥) × (states' ≡ states ++ state ∷ [])))

@@ -8,7 +8,7 @@ ghost use Rattle.slate_model.specs.Follower.{number};
 ghost use Rattle.slate_model.specs.Known.{Known};
 ghost use Rattle.slate_live.specs.Represents.{Represents};
 ghost use Rattle.slate_live.specs.World.{World};
-ghost use Rattle.slate_readers.specs.Changes.{IsShown, NoneBelow, Shows, first_reader, first_state};
+ghost use Rattle.slate_readers.specs.Changes.{IsShown, NoneBelow, ShowsFirst, first_reader, first_state};
 ghost use Rattle.slate_readers.specs.Watching.{IsTold};
 
 use crate::states::{Sight, is_seen, sight_of};
@@ -92,7 +92,7 @@ impl Broadcast {
         ensures origin { self.new.list.origin ≡ self.old.list.origin }
         ensures place { NoneBelow self.old.place live.now.objects → NoneBelow self.new.place live.now.objects }
         ensures whole { self.new.whole ≡ true → self.old.whole ≡ true }
-        ensures shows { (store : Known (List Batch)) (w : World) → Represents live.now store w → NoneBelow self.old.place live.now.objects → self.new.whole ≡ true → Shows (first_state w) self.old.list.states self.new.list.states }
+        ensures shows { (store : Known (List Batch)) (w : World) → Represents live.now store w → NoneBelow self.old.place live.now.objects → self.new.whole ≡ true → ShowsFirst (first_state w) self.old.list.states self.new.list.states }
     {
         let Some(reader) = first_reader(live, &mut self.place) else {
             return;

@@ -33,7 +33,7 @@ since_base-merge (version ∷ versions) last merge =
     (λ b. cond (b || false) (since_base (versions ++ last ∷ [])) (version ∷ (versions ++ last ∷ [])) ≡ cond b (since_base versions) (version ∷ versions) ++ last ∷ [])
     [ true ↦ since_base-merge versions last merge | false ↦ refl ]))
 
--- one more version, as `take_version` adds it: kept is what stays of the versions held
+-- one more version, as `add_version` adds it: kept is what stays of the versions held
 pub IsTail-more : (history : List Version) (held kept new : List Held) (last : Held) (base : Bool) → base ≡ is_base last.key_op.now.op →
     kept ≡ cond base [] held → new ≡ kept ++ last ∷ [] →
     IsTail last.key_op.now.key history held → IsTail last.key_op.now.key (history ++ seen last ∷ []) new

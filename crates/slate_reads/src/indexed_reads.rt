@@ -94,7 +94,7 @@ fn indexed_tail<'a>(
     ensures { IfOk result (λ versions. IsTail key.now (history (older.now ++ (flat_map (λ table. table) stored.now ++ flat_map (λ table. table) memory.now)) bound key.now) versions.items) }
 {
     let mut newest = Vec::new(alloc);
-    let ended = take_sources(&mut newest, stored, memory, bound, key)?;
+    let ended = add_from_all(&mut newest, stored, memory, bound, key)?;
     let mut versions = tail_before(alloc, older, bound, key.as_slice(), ended)?;
     newest.reverse();
     versions.extend_from_slice(newest.as_slice())?;
@@ -119,7 +119,7 @@ fn tail_before<'a>(
 
 /// Takes the versions of a key in the tables in memory and then in the stored ones, newest first, up to a put or a
 /// delete, and says whether there is one.
-fn take_sources<'a>(
+fn add_from_all<'a>(
     newest: &mut Vec<Version<'a>>,
     stored: &'a [Table],
     memory: &'a [IndexedTable],
@@ -130,14 +130,14 @@ fn take_sources<'a>(
         IsEnd key.now whole (rest ++ history (flat_map (λ table. table) stored.now ++ flat_map (λ table. table) memory.now) bound key.now) false newest.old.items →
         IsEnd key.now whole rest ended newest.new.items) }
 {
-    if take_tables(newest, memory, bound, key)? {
+    if add_from_tables(newest, memory, bound, key)? {
         return Ok(true);
     }
-    take_tables(newest, stored, bound, key)
+    add_from_tables(newest, stored, bound, key)
 }
 
 /// Takes the versions of a key in tables, newest first, up to a put or a delete, and says whether there is one.
-fn take_tables<'a, T: Indexed>(
+fn add_from_tables<'a, T: Indexed>(
     newest: &mut Vec<Version<'a>>,
     tables: &'a [T],
     bound: Option<u64>,
@@ -148,7 +148,7 @@ fn take_tables<'a, T: Indexed>(
 {
     let mut left = tables;
     while let Some((table, earlier)) = left.split_last() {
-        if take_table(newest, table.as_indexed(), bound, key)? {
+        if add_from_table(newest, table.as_indexed(), bound, key)? {
             return Ok(true);
         }
         left = earlier;
@@ -157,7 +157,7 @@ fn take_tables<'a, T: Indexed>(
 }
 
 /// Takes the versions of a key in a table, newest first, up to a put or a delete, and says whether there is one.
-fn take_table<'a>(
+fn add_from_table<'a>(
     newest: &mut Vec<Version<'a>>,
     table: &'a IndexedTable,
     bound: Option<u64>,
@@ -183,7 +183,7 @@ fn take_table<'a>(
 
 /// Adds the versions of a key in a table up to a bound, newest first. It takes a look-up, and goes over the key's
 /// operations, with those above the bound.
-pub fn take_history<'a>(
+pub fn add_newest_versions<'a>(
     newest: &mut Vec<Version<'a>>,
     table: &'a IndexedTable,
     bound: Option<u64>,

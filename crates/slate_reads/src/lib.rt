@@ -8,8 +8,8 @@ mod tables;
 mod walks;
 mod windows;
 
-pub use indexed_reads::{Indexed, read_indexed, read_key, take_history};
-pub use reads::{Version, fold, is_base, is_within, prepare_max_seq, read, take_versions};
+pub use indexed_reads::{Indexed, add_newest_versions, read_indexed, read_key};
+pub use reads::{Version, add_versions, fold, is_base, is_within, prepare_max_seq, read};
 pub use shared_tables::Table;
 pub use tables::{IndexedTable, ops_size};
 pub use walks::{as_bound, is_crossed};

@@ -80,14 +80,14 @@ pub(crate) fn tail_of<'a>(
     let mut versions = Vec::new(alloc);
     for batch in batches {
         if is_within(bound, batch.number) {
-            take_versions(&mut versions, batch, key)?;
+            add_versions(&mut versions, batch, key)?;
         }
     }
     Ok(versions)
 }
 
 /// Adds a batch's versions of a key to a tail, oldest first. A put or a delete begins it anew. One pass over the batch.
-pub fn take_versions<'a>(
+pub fn add_versions<'a>(
     versions: &mut Vec<Version<'a>>,
     batch: &'a Batch,
     key: &[u8],
@@ -97,14 +97,14 @@ pub fn take_versions<'a>(
 {
     for key_op in batch.ops.as_slice() {
         if key_op.key.as_slice() == key {
-            take_version(versions, Version { batch, key_op })?;
+            add_version(versions, Version { batch, key_op })?;
         }
     }
     Ok(())
 }
 
 /// Adds a version to a tail. A put or a delete begins it anew.
-fn take_version<'a>(versions: &mut Vec<Version<'a>>, version: Version<'a>) -> Result<(), NoMemory>
+fn add_version<'a>(versions: &mut Vec<Version<'a>>, version: Version<'a>) -> Result<(), NoMemory>
     ensures { OnOk result ((history : List SeenVersion) → IsTail version.entry.key_op.now.key history versions.old.items →
         IsTail version.entry.key_op.now.key (history ++ seen version.entry ∷ []) versions.new.items) }
 {

@@ -2,7 +2,7 @@
 -- record as the call found it: that there is one of which it is the answer.
 use Rattle.std.specs.Prelude.{◌≡◌, ℕ, Bool, List, max}
 use Rattle.slate_status.specs.Records.{Record, Reports, status_of, with_segments}
-use Rattle.slate_status.specs.Segments.{AreRising, IsUnion}
+use Rattle.slate_status.specs.Segments.{PrefixesRise, IsUnion}
 use Rattle.slate_status.specs.declared.statuses.DbStatus.{DbStatus}
 
 -- whether the version rose, by a report of what this change makes of a record
@@ -17,8 +17,8 @@ AnswersAdded prefixes rose =
 
 -- the status of a record
 abbrev pub IsReported : DbStatus → Type 0
-IsReported status = (r : Record) × (status ≡ status_of r) × AreRising status.memtable_segments
+IsReported status = (r : Record) × (status ≡ status_of r) × PrefixesRise status.memtable_segments
 
 -- the same, whose version is the one seen from now on, unless a later one was seen before
 abbrev pub IsSeen : ℕ → ℕ → DbStatus → Type 0
-IsSeen before after status = (r : Record) × (status ≡ status_of r) × AreRising status.memtable_segments × (after ≡ max before r.version)
+IsSeen before after status = (r : Record) × (status ≡ status_of r) × PrefixesRise status.memtable_segments × (after ≡ max before r.version)

@@ -2,7 +2,7 @@
 ghost use Rattle.std.specs.Prelude.{◌≡◌, true, IfOk};
 ghost use Rattle.slate_errors.specs.declared.closing.CloseFault.{CloseFault};
 ghost use Rattle.slate_status.specs.Records.{with_durable, with_manifest, with_result, with_segments};
-ghost use Rattle.slate_status.specs.Segments.{AreRising};
+ghost use Rattle.slate_status.specs.Segments.{PrefixesRise};
 ghost use Rattle.slate_receivers.specs.Outcomes.{EndsBy, IsRecorded};
 ghost use Rattle.slate_receivers.specs.Reported.{AnswersAdded, AnswersReport, IsReported};
 
@@ -80,7 +80,7 @@ impl StatusManager {
     /// Reports the prefixes of the segments that batches outside of tables are in, rising, each once. It takes no
     /// memory.
     pub fn report_memtable_segments<R: Wait>(&self, rt: &R, prefixes: Seq<Bytes>) -> bool
-        requires { AreRising prefixes }
+        requires { PrefixesRise prefixes }
         ensures { AnswersReport (with_segments prefixes) result }
     {
         let rose = self.shared.lock(rt).report_memtable_segments(prefixes);
@@ -94,7 +94,7 @@ impl StatusManager {
         manifest: VersionedManifest,
         prefixes: Seq<Bytes>,
     ) -> bool
-        requires { AreRising prefixes }
+        requires { PrefixesRise prefixes }
         ensures { AnswersReport (λ old. with_segments prefixes (with_manifest manifest old)) result }
     {
         let rose = self

@@ -2,7 +2,7 @@
 ghost use Rattle.std.specs.Prelude.{◌≡◌, ◌↔◌, ◌≤◌, true, max, IsTrue, IfOk, OnErr};
 ghost use Rattle.std.specs.Fn.{FnReturnsAt};
 ghost use Rattle.slate_types.specs.Counts.{HasRisen};
-ghost use Rattle.slate_receivers.specs.Looks.{Shows};
+ghost use Rattle.slate_receivers.specs.Looks.{ShowsRecord};
 ghost use Rattle.slate_receivers.specs.Reported.{IsReported, IsSeen};
 ghost use Rattle.slate_status.specs.Records.{Record};
 
@@ -97,7 +97,7 @@ impl StatusReceiver {
     }
 
     fn look<R: Wait>(&self, rt: &R, alloc: Global) -> Result<VersionedStatus, NoMemory>
-        ensures { IfOk result (λ shown. (r : Record) × Shows r shown) }
+        ensures { IfOk result (λ shown. (r : Record) × ShowsRecord r shown) }
     {
         let record = self.shared.lock(rt);
         look(&record, alloc)

@@ -3,7 +3,7 @@ ghost use Rattle.std.specs.Prelude.{◌≡◌, ◌↔◌, IsTrue, IfOk};
 ghost use Rattle.slate_types.specs.Counts.{HasRisen};
 ghost use Rattle.slate_status.specs.Records.{durable_answer};
 ghost use Rattle.slate_receivers.specs.Outcomes.{EndsBy, IsRecorded, outcome_of};
-ghost use Rattle.slate_receivers.specs.Looks.{Shows};
+ghost use Rattle.slate_receivers.specs.Looks.{ShowsRecord};
 
 use slate_errors::Error;
 use slate_status::{DbStatus, DurableAnswer, StatusRecord};
@@ -82,7 +82,7 @@ impl SharedRecord {
 
 /// The status of a record, with its version.
 pub(crate) fn look(known: &StatusRecord, alloc: Global) -> Result<VersionedStatus, NoMemory>
-    ensures { IfOk result (Shows known.now) }
+    ensures { IfOk result (ShowsRecord known.now) }
 {
     Ok(VersionedStatus {
         version: known.version(),

@@ -38,7 +38,7 @@ use Rattle.slate_live.proofs.Wholes.{next-whole}
 use Rattle.slate_route.specs.declared.answers.Added.{Added}
 use Rattle.slate_route.specs.declared.answers.RouteRefusal.{RouteRefusal}
 use Rattle.slate_route.specs.declared.answers.RouteRefusal.TheVariants as refusals
-use Rattle.slate_route.specs.Reading.{Adds, is_open, most_readers, opening_refusal}
+use Rattle.slate_route.specs.Reading.{AddsReader, is_open, most_readers, opening_refusal}
 use Rattle.slate_route.specs.Standing.{AddEnds, AddLeads, AreAt, Grows, IsRouted, RoutesOver, opens_at, routing}
 use Rattle.slate_route.specs.Turns.{OpensReader, reader_of}
 use Rattle.slate_route.proofs.Turning.{stands-of}
@@ -247,17 +247,17 @@ opening-ready {moment} {lifetime} {interval} {before} {after} reader o = by o.op
   by (Err error) is faults made opens = absurd (cc)
 
 -- and an error refuses it, and no more
-pub opening-refuses : {moment : ℤ} {lifetime interval : ℕ} {before after : Known (List Batch)} (old : List Follower) → length old < most_readers → (refused : RouteRefusal) → OpensReader moment lifetime interval before (Err refused) after → Adds old old before.faults after.faults (Err refused)
+pub opening-refuses : {moment : ℤ} {lifetime interval : ℕ} {before after : Known (List Batch)} (old : List Follower) → length old < most_readers → (refused : RouteRefusal) → OpensReader moment lifetime interval before (Err refused) after → AddsReader old old before.faults after.faults (Err refused)
 opening-refuses {moment} {lifetime} {interval} {before} {after} old few refused o = by o.opened o.result_is o.faults o.kind where
-  one : (error : SlateError) → IsOfOpening ManagedCheckpoint error → FaultsRise before.faults after.faults (let r : Result (Follower × PollAnswer) SlateError = Err error in r) → Adds old old before.faults after.faults (Err (opening_refusal error))
+  one : (error : SlateError) → IsOfOpening ManagedCheckpoint error → FaultsRise before.faults after.faults (let r : Result (Follower × PollAnswer) SlateError = Err error in r) → AddsReader old old before.faults after.faults (Err (opening_refusal error))
   one errors.NoMemory kind faults = (few, refl)
   one error kind faults = (few, refl, kind, stands-of error before.faults before.faults after.faults {A = Follower × PollAnswer} (λ same. cc) (omega arith) faults)
 
-  by : (opened : Result (Follower × PollAnswer) SlateError) → Err refused ≡ reader_of opened → FaultsRise before.faults after.faults opened → IfErr opened (IsOfOpening ManagedCheckpoint) → Adds old old before.faults after.faults (Err refused)
+  by : (opened : Result (Follower × PollAnswer) SlateError) → Err refused ≡ reader_of opened → FaultsRise before.faults after.faults opened → IfErr opened (IsOfOpening ManagedCheckpoint) → AddsReader old old before.faults after.faults (Err refused)
   by (Ok b) is faults kind = absurd (cc)
   by (Err error) is faults kind =
       let it : opening_refusal error ≡ refused = cc in
-      subst (λ (r : RouteRefusal). Adds old old before.faults after.faults (Err r)) it (one error kind faults)
+      subst (λ (r : RouteRefusal). AddsReader old old before.faults after.faults (Err r)) it (one error kind faults)
 
 pub leads-with : {settings : Settings} {lifetime interval : ℕ} {live : Live} {places : List ℕ} {w : World} {new new' : List Follower} {result : Result Added RouteRefusal} {store : Known (List Batch)} (at moment : ℤ) → at ≡ moment → new ≡ new' →
     AddLeads settings at lifetime interval live places w new result store → AddLeads settings moment lifetime interval live places w new' result store

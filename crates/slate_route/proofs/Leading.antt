@@ -13,7 +13,7 @@ use Rattle.slate_model.specs.Catalogue.{Catalogue, catalogue_of}
 use Rattle.slate_model.specs.Follower.{Follower, number}
 use Rattle.slate_model.specs.Known.{Known}
 use Rattle.slate_model.specs.Object.{Follower as AFollower}
-use Rattle.slate_model.specs.Read.{AnswersRead, Reads}
+use Rattle.slate_model.specs.Read.{AnswersRead, ReadsUnlessClosed}
 use Rattle.slate_model.specs.Stores.{by_objects, kept_rows}
 use Rattle.slate_model.specs.Tables.{AreStored}
 use Rattle.slate_model.proofs.Keeping.{line_above-end}
@@ -51,7 +51,7 @@ pub record GetLeads (settings : Settings) (live : Live) (places : List ℕ) (rea
 
 module _ (merge : Option Merge) (base live : Live) (same : live.options ≡ base.options) (store store' : Known (List Batch)) (places : List ℕ) (readers : List Follower) (w : World) (over : RoutesOver live store places readers w)
     (i n : ℕ) (named : slice_get places i ≡ Some n) (reader : Follower) (there : slice_get readers i ≡ Some reader) (opened : reader.result ≡ None) (moment : ℤ) (key : List ℕ) (result : Result (Option KeyValue) SlateError)
-    (read : Reads reader.result reader.view.manifest.tables (kept_rows store.objects (AFollower reader)) (λ rows answer. answer ≡ read_at merge rows (Some (number reader)) key) store result store') where
+    (read : ReadsUnlessClosed reader.result reader.view.manifest.tables (kept_rows store.objects (AFollower reader)) (λ rows answer. answer ≡ read_at merge rows (Some (number reader)) key) store result store') where
   abbrev settings : Settings
   settings = routing merge base
 

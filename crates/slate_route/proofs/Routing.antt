@@ -18,7 +18,7 @@ use Rattle.slate_model.specs.Catalogue.{Catalogue}
 use Rattle.slate_model.specs.Follower.{Follower, number}
 use Rattle.slate_model.specs.Known.{FaultsRise, Known}
 use Rattle.slate_model.specs.Object.{Follower as AFollower}
-use Rattle.slate_model.specs.Read.{Reads, ReadsByAny}
+use Rattle.slate_model.specs.Read.{ReadsUnlessClosed, ReadsByAny}
 use Rattle.slate_model.specs.Stores.{kept_rows}
 use Rattle.slate_model.specs.Tables.{AreStored}
 use Rattle.slate_script.specs.declared.commands.Action.TheVariants as actions
@@ -87,7 +87,7 @@ module _ (at_least : ℕ) (old new : List Follower) (covering : Covering) (goes 
         let b = ((((l.polled).over).represents).represents).faults in
         omega (arith, a, b, more)
 
-    module _ (result : Result (Option KeyValue) SlateError) (read : Reads reader.result reader.view.manifest.tables (kept_rows between.objects (AFollower reader)) (λ rows answer. answer ≡ read_at merge rows (Some (number reader)) key) between result after) where
+    module _ (result : Result (Option KeyValue) SlateError) (read : ReadsUnlessClosed reader.result reader.view.manifest.tables (kept_rows between.objects (AFollower reader)) (λ rows answer. answer ≡ read_at merge rows (Some (number reader)) key) between result after) where
       g : GetLeads (routing merge live) (l.polled).next places new mid moment n key reader result after
       g = get-leads merge live (l.polled).next ((l.polled).others).options between after places new mid (l.polled).over covering.place n named reader there opened moment key result read
 

@@ -43,7 +43,7 @@ use Rattle.slate_route.specs.declared.commands.RouteAction.TheVariants as asked
 use Rattle.slate_route.specs.declared.commands.RouteAnswer.{RouteAnswer}
 use Rattle.slate_route.specs.declared.commands.RouteAnswer.TheVariants as answers
 use Rattle.slate_route.specs.declared.commands.RouteCommand.{RouteCommand}
-use Rattle.slate_route.specs.Reading.{Adds, Answers, Passes}
+use Rattle.slate_route.specs.Reading.{AddsReader, Answers, Passes}
 use Rattle.slate_route.specs.Session.{AddsTo, HoldsWorld, IsReachedRoute, ReadsTo, Route, RouteChain, RouteLink, RouteLinks, RouteStep, RoutesOn, Runs, StandFor, flush_command, last_route, none_routed, opening, put_command, route_settings}
 use Rattle.slate_route.specs.Standing.{AddEnds, AddLeads, AreAt, CanRead, PollEach, ReadLeads, RoutesOver, opens_at, places_after, routing}
 
@@ -138,14 +138,14 @@ module _ (live : Live) (store : Known (List Batch)) (readers : List Follower) (r
   faults-is = ((s.over).represents.represents).faults
 
   -- an opening of a reader
-  pub add-to : (moment : ℤ) (lifetime interval : ℕ) (result : Result Added RouteRefusal) (readers' : List Follower) (store' : Known (List Batch)) → Adds readers readers' store.faults store'.faults result →
+  pub add-to : (moment : ℤ) (lifetime interval : ℕ) (result : Result Added RouteRefusal) (readers' : List Follower) (store' : Known (List Batch)) → AddsReader readers readers' store.faults store'.faults result →
       AddLeads (routing None s.joined) moment lifetime interval s.joined route.places route.world readers' result store' → (route' : Route) × AddsTo moment lifetime interval result route route' × StandFor live store' readers' route'
   add-to moment lifetime interval result readers' store' adds l =
       let then : Route = record { world = l.last; places = places_after route.places (length s.joined.objects) result; readers = readers' } in
       let faults' : store'.faults ≡ l.last.faults = ((l.over).represents.represents).faults in (
         then,
         record {
-          adds = subst (λ n. Adds route.readers readers' route.world.faults n result) faults' (subst (λ n. Adds route.readers readers' n store'.faults result) faults-is (subst (λ rs. Adds rs readers' store.faults store'.faults result) s.same adds));
+          adds = subst (λ n. AddsReader route.readers readers' route.world.faults n result) faults' (subst (λ n. AddsReader route.readers readers' n store'.faults result) faults-is (subst (λ rs. AddsReader rs readers' store.faults store'.faults result) s.same adds));
           ends = subst (λ n. AddEnds route_settings (opens_at moment lifetime interval) n route.world result l.last) count-is (subst (λ (x : Settings). AddEnds x (opens_at moment lifetime interval) (length s.joined.objects) route.world result l.last) routing-is l.ends);
           places = ap (λ n. places_after route.places n result) count-is;
           stored = l.stored;

@@ -124,10 +124,10 @@ Answers at_least old new faults faults' (Err refusal) = FindsNone at_least old n
 
 -- What an opening answers, and what it leaves of the readers. That there are as many as have numbers is looked at first, and nothing
 -- changes then.
-abbrev pub Adds : (old new : List Follower) → (faults faults' : ℕ) → Result Added RouteRefusal → Type 0
-Adds old new faults faults' (Ok added) =
+abbrev pub AddsReader : (old new : List Follower) → (faults faults' : ℕ) → Result Added RouteRefusal → Type 0
+AddsReader old new faults faults' (Ok added) =
     (added.follower ≡ length old) × (reader : Follower) × (new ≡ old ++ reader ∷ []) × (is_open reader ≡ true) × (number reader ≡ added.at) × (faults' ≡ faults)
-Adds old new faults faults' (Err refusals.Full) = (length old ≡ most_readers) × (new ≡ old) × (faults' ≡ faults)
-Adds old new faults faults' (Err (refusals.Open error)) = (length old < most_readers) × (new ≡ old) × IsOfOpening ManagedCheckpoint error × StandsInRefusal error faults faults'
-Adds old new faults faults' (Err refusals.NoMemory) = (length old < most_readers) × (new ≡ old)
-Adds old new faults faults' (Err refusal) = ⊥
+AddsReader old new faults faults' (Err refusals.Full) = (length old ≡ most_readers) × (new ≡ old) × (faults' ≡ faults)
+AddsReader old new faults faults' (Err (refusals.Open error)) = (length old < most_readers) × (new ≡ old) × IsOfOpening ManagedCheckpoint error × StandsInRefusal error faults faults'
+AddsReader old new faults faults' (Err refusals.NoMemory) = (length old < most_readers) × (new ≡ old)
+AddsReader old new faults faults' (Err refusal) = ⊥

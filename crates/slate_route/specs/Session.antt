@@ -28,7 +28,7 @@ use Rattle.slate_route.specs.declared.commands.RouteAction.TheVariants as asked
 use Rattle.slate_route.specs.declared.commands.RouteAnswer.{RouteAnswer}
 use Rattle.slate_route.specs.declared.commands.RouteAnswer.TheVariants as answers
 use Rattle.slate_route.specs.declared.commands.RouteCommand.{RouteCommand}
-use Rattle.slate_route.specs.Reading.{Adds, Answers, Passes}
+use Rattle.slate_route.specs.Reading.{AddsReader, Answers, Passes}
 use Rattle.slate_route.specs.Standing.{AddEnds, AreAt, CanRead, IsAnswered, PollEach, ReadEnds, RoutesOver, command_at, opens_at, places_after}
 use Rattle.slate_route.specs.Texts.{answers_text}
 
@@ -60,7 +60,7 @@ pub record Runs (command : Command) (reply : Reply) (a b : Route) : Type 0 where
 
 -- an opening of a reader
 pub record AddsTo (moment : ℤ) (lifetime interval : ℕ) (result : Result Added RouteRefusal) (a b : Route) : Type 0 where
-  pub adds : Adds a.readers b.readers a.world.faults b.world.faults result
+  pub adds : AddsReader a.readers b.readers a.world.faults b.world.faults result
   pub ends : AddEnds route_settings (opens_at moment lifetime interval) (length a.world.objects) a.world result b.world
   pub places : b.places ≡ places_after a.places (length a.world.objects) result
   pub stored : b.world.stored ≡ a.world.stored

@@ -9,7 +9,7 @@ ghost use Rattle.slate_model.specs.Follower.{Follower, number};
 ghost use Rattle.slate_model.specs.Known.{Known, known};
 ghost use Rattle.slate_live.specs.State.{Live};
 ghost use Rattle.slate_live.specs.World.{World};
-ghost use Rattle.slate_route.specs.Reading.{Adds, Answers, IsBest, covers, first_covering, is_memory, is_open};
+ghost use Rattle.slate_route.specs.Reading.{AddsReader, Answers, IsBest, covers, first_covering, is_memory, is_open};
 ghost use Rattle.slate_route.specs.Standing.{AddLeads, ReadLeads, RoutesOver, routing};
 ghost use Rattle.slate_route.specs.Turns.{CoverLeads, Covers, OpensReader, PollsAt, PollsFor};
 
@@ -116,7 +116,7 @@ impl Router {
         interval_ms: u64,
         moment: i64,
     ) -> Result<Added, RouteRefusal>
-        ensures adds { Adds self.old self.new (S.faults store.old) (S.faults store.new) result }
+        ensures adds { AddsReader self.old self.new (S.faults store.old) (S.faults store.new) result }
         // Over an honest store the reader is another object of the world to which the router's readers belong.
         ensures leads { (live : Live) (places : List ℕ) (w : World) (merge : Option Merge) → RoutesOver live (known S.objects S.faults store.old) places self.old w →
             AddLeads (routing merge live) moment lifetime_ms interval_ms live places w self.new result (known S.objects S.faults store.new) }

@@ -13,7 +13,7 @@ use Rattle.slate_types.specs.Operator.{Merge}
 use Rattle.slate_reads.specs.Read.{read_at}
 use Rattle.slate_rows.specs.declared.table_walks.Walk.{Walk}
 use Rattle.slate_rows.specs.Ahead.{all_ahead, AreAhead}
-use Rattle.slate_rows.specs.Gathered.{Adds}
+use Rattle.slate_rows.specs.Gathered.{AddsRow}
 use Rattle.slate_rows.specs.Iteration.{Iteration, begun}
 use Rattle.slate_rows.specs.Front.{IsScanFront, first_rows}
 use Rattle.slate_rows.specs.Scan.{Rows, rows_of}
@@ -39,7 +39,7 @@ first_rows-full limit rows left le ge =
 pub first_rows-fault : (limit : ℕ) (rows : List KeyValue) (fault : ReadFault) → length rows < limit → first_rows limit (record { rows = rows; fault = Some fault }) ≡ record { rows = rows; fault = Some fault }
 first_rows-fault limit rows fault lt = rw (take_all limit rows (omega arith), lt-ltb (length rows) limit lt) refl
 
-pub count-found : (found : Result (Option KeyValue) ReadFault) (rows new : List KeyValue) → Adds found rows new None → length new ≤ length rows + 1
+pub count-found : (found : Result (Option KeyValue) ReadFault) (rows new : List KeyValue) → AddsRow found rows new None → length new ≤ length rows + 1
 count-found (Ok None) rows new adds = omega (arith, ap length adds.0)
 count-found (Ok (Some row)) rows new adds = omega (arith, ap length adds.0, length_push rows row)
 count-found (Err NoMemory) rows new adds = absurd adds

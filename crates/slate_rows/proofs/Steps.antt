@@ -20,7 +20,7 @@ use Rattle.slate_types.specs.declared.ranges.ByteRange.{ByteRange}
 use Rattle.slate_types.specs.declared.read_faults.ReadFault.{ReadFault}
 use Rattle.slate_types.specs.declared.read_faults.ReadFault.TheVariants.{MergeOperatorMissing, MergeOperatorError, ChecksumMismatch, NoMemory}
 use Rattle.slate_reads.specs.declared.reads.Version.{Version as Held}
-use Rattle.slate_rows.specs.Gathered.{AreSorted, Adds, held_keys, held_rows}
+use Rattle.slate_rows.specs.Gathered.{AreSorted, AddsRow, held_keys, held_rows}
 use Rattle.slate_types.specs.Operator.{Merge}
 use Rattle.slate_types.specs.Order.{order_cmp, AreInOrder, row_keys}
 use Rattle.slate_types.specs.Range.{key_cmp, contains}
@@ -97,7 +97,7 @@ left_rows merge order key held h start end front step sorted =
     ∙ ap (λ x. with_found (fold_versions merge key None (since_base (map seen x))) (held_rows merge (drop end held))) (sym step.front-is)
 
 -- ---- the rows
-pub found-more : (answer found : Result (Option KeyValue) ReadFault) (rows new : List KeyValue) (others : Rows) → Reads answer found → Adds found rows new None →
+pub found-more : (answer found : Result (Option KeyValue) ReadFault) (rows new : List KeyValue) (others : Rows) → Reads answer found → AddsRow found rows new None →
     after_rows rows (with_found answer others) ≡ after_rows new others
 found-more answer (Ok None) rows new others reads adds = rw (reads, adds.0)
 found-more answer (Ok (Some row)) rows new others reads adds = rw (reads, adds.0) (ap (λ x. record { rows = x; fault = others.fault }) (sym (append_assoc rows (row ∷ []) others.rows)))
@@ -106,7 +106,7 @@ found-more answer (Err MergeOperatorError) rows new others reads adds = absurd (
 found-more answer (Err ChecksumMismatch) rows new others reads adds = absurd (let none = adds.1 in cc)
 found-more answer (Err NoMemory) rows new others reads adds = absurd adds
 
-pub found-end : (answer found : Result (Option KeyValue) ReadFault) (rows new : List KeyValue) (fault : ReadFault) (others : Rows) → Reads answer found → Adds found rows new (Some fault) →
+pub found-end : (answer found : Result (Option KeyValue) ReadFault) (rows new : List KeyValue) (fault : ReadFault) (others : Rows) → Reads answer found → AddsRow found rows new (Some fault) →
     after_rows rows (with_found answer others) ≡ record { rows = new; fault = Some fault }
 found-end answer (Ok None) rows new fault others reads adds = absurd (let none = adds.1 in cc)
 found-end answer (Ok (Some row)) rows new fault others reads adds = absurd (let none = adds.1 in cc)
@@ -116,13 +116,13 @@ found-end answer (Err ChecksumMismatch) rows new fault others reads adds = rw (r
 found-end answer (Err NoMemory) rows new fault others reads adds = absurd adds
 
 pub rows-more : (merge : Option Merge) (order : IterationOrder) (key : List ℕ) (held : List Held) (h : Held) (start end : ℕ) (front : List Held) (found : Result (Option KeyValue) ReadFault) (rows new : List KeyValue) →
-    IsStep key held h start end front → AreSorted order held → Reads (fold_versions merge key None (since_base (map seen front))) found → Adds found rows new None →
+    IsStep key held h start end front → AreSorted order held → Reads (fold_versions merge key None (since_base (map seen front))) found → AddsRow found rows new None →
     held_rows merge held ≡ after_rows rows (held_rows merge (drop start held)) → held_rows merge held ≡ after_rows new (held_rows merge (drop end held))
 rows-more merge order key held h start end front found rows new step sorted reads adds so_far =
     so_far ∙ ap (after_rows rows) (left_rows merge order key held h start end front step sorted) ∙ found-more _ found rows new (held_rows merge (drop end held)) reads adds
 
 pub rows-fault : (merge : Option Merge) (order : IterationOrder) (key : List ℕ) (held : List Held) (h : Held) (start end : ℕ) (front : List Held) (found : Result (Option KeyValue) ReadFault) (rows new : List KeyValue) (fault : ReadFault) →
-    IsStep key held h start end front → AreSorted order held → Reads (fold_versions merge key None (since_base (map seen front))) found → Adds found rows new (Some fault) →
+    IsStep key held h start end front → AreSorted order held → Reads (fold_versions merge key None (since_base (map seen front))) found → AddsRow found rows new (Some fault) →
     held_rows merge held ≡ after_rows rows (held_rows merge (drop start held)) → held_rows merge held ≡ record { rows = new; fault = Some fault }
 rows-fault merge order key held h start end front found rows new fault step sorted reads adds so_far =
     so_far ∙ ap (after_rows rows) (left_rows merge order key held h start end front step sorted) ∙ found-end _ found rows new fault (held_rows merge (drop end held)) reads adds
@@ -154,7 +154,7 @@ left_keys order key held h start end front step sorted =
     let left : AreSorted order ((h ∷ step.more) ++ drop end held) = rw step.joined at (AreSorted-drop order held start sorted) in
     ap (λ x. dedup bytes_eq (held_keys x)) step.joined ∙ keys-split key h step.more (drop end held) step.first step.same (off-others order key h step.more (drop end held) left step.first step.past)
 
-pub order-found : (order : IterationOrder) (key : List ℕ) (found : Result (Option KeyValue) ReadFault) (rows new : List KeyValue) (keys : List (List ℕ)) → IfOk found (λ x. IfSome x (λ row. row.key ≡ key)) → Adds found rows new None →
+pub order-found : (order : IterationOrder) (key : List ℕ) (found : Result (Option KeyValue) ReadFault) (rows new : List KeyValue) (keys : List (List ℕ)) → IfOk found (λ x. IfSome x (λ row. row.key ≡ key)) → AddsRow found rows new None →
     AreInOrder order (row_keys rows ++ key ∷ keys) → AreInOrder order (row_keys new ++ keys)
 order-found order key (Ok None) rows new keys keyed adds sorted = rw adds.0 (sorted-without order (row_keys rows) key keys sorted)
 order-found order key (Ok (Some row)) rows new keys keyed adds sorted =
@@ -165,13 +165,13 @@ order-found order key (Err ChecksumMismatch) rows new keys keyed adds sorted = a
 order-found order key (Err NoMemory) rows new keys keyed adds sorted = absurd adds
 
 pub order-more : (order : IterationOrder) (key : List ℕ) (held : List Held) (h : Held) (start end : ℕ) (front : List Held) (found : Result (Option KeyValue) ReadFault) (rows new : List KeyValue) →
-    IsStep key held h start end front → AreSorted order held → IfOk found (λ x. IfSome x (λ row. row.key ≡ key)) → Adds found rows new None →
+    IsStep key held h start end front → AreSorted order held → IfOk found (λ x. IfSome x (λ row. row.key ≡ key)) → AddsRow found rows new None →
     AreInOrder order (row_keys rows ++ dedup bytes_eq (held_keys (drop start held))) → AreInOrder order (row_keys new ++ dedup bytes_eq (held_keys (drop end held)))
 order-more order key held h start end front found rows new step sorted keyed adds so_far =
     order-found order key found rows new (dedup bytes_eq (held_keys (drop end held))) keyed adds (rw (left_keys order key held h start end front step sorted) at so_far)
 
 -- the rows that were taken stay, where a fault comes
-pub kept-fault : (found : Result (Option KeyValue) ReadFault) (rows new : List KeyValue) (fault : ReadFault) → Adds found rows new (Some fault) → new ≡ rows
+pub kept-fault : (found : Result (Option KeyValue) ReadFault) (rows new : List KeyValue) (fault : ReadFault) → AddsRow found rows new (Some fault) → new ≡ rows
 kept-fault (Ok None) rows new fault adds = adds.0
 kept-fault (Ok (Some row)) rows new fault adds = absurd (let none = adds.1 in cc)
 kept-fault (Err MergeOperatorMissing) rows new fault adds = adds.0
@@ -179,7 +179,7 @@ kept-fault (Err MergeOperatorError) rows new fault adds = adds.0
 kept-fault (Err ChecksumMismatch) rows new fault adds = adds.0
 kept-fault (Err NoMemory) rows new fault adds = absurd adds
 
-pub order-fault : (order : IterationOrder) (keys : List (List ℕ)) (found : Result (Option KeyValue) ReadFault) (rows new : List KeyValue) (fault : ReadFault) → Adds found rows new (Some fault) →
+pub order-fault : (order : IterationOrder) (keys : List (List ℕ)) (found : Result (Option KeyValue) ReadFault) (rows new : List KeyValue) (fault : ReadFault) → AddsRow found rows new (Some fault) →
     AreInOrder order (row_keys rows ++ keys) → AreInOrder order (row_keys new)
 order-fault order keys found rows new fault adds so_far = rw (kept-fault found rows new fault adds) (sorted-front order (row_keys rows) keys so_far)
 
@@ -187,7 +187,7 @@ pub order-end : (order : IterationOrder) (keys : List (List ℕ)) (rows : List K
 order-end order keys rows so_far = sorted-front order (row_keys rows) keys so_far
 
 -- ---- and their range
-pub range-found : (range : ByteRange) (key : List ℕ) (found : Result (Option KeyValue) ReadFault) (rows new : List KeyValue) → contains range key ≡ true → IfOk found (λ x. IfSome x (λ row. row.key ≡ key)) → Adds found rows new None →
+pub range-found : (range : ByteRange) (key : List ℕ) (found : Result (Option KeyValue) ReadFault) (rows new : List KeyValue) → contains range key ≡ true → IfOk found (λ x. IfSome x (λ row. row.key ≡ key)) → AddsRow found rows new None →
     All (λ row. IsTrue (contains range row.key)) rows → All (λ row. IsTrue (contains range row.key)) new
 range-found range key (Ok None) rows new one keyed adds inside = rw adds.0 inside
 range-found range key (Ok (Some row)) rows new one keyed adds inside = rw adds.0 (All-push (λ (r : KeyValue). IsTrue (contains range r.key)) rows row inside (ap (contains range) keyed ∙ one))
@@ -197,13 +197,13 @@ range-found range key (Err ChecksumMismatch) rows new one keyed adds inside = ab
 range-found range key (Err NoMemory) rows new one keyed adds inside = absurd adds
 
 pub range-more : (range : ByteRange) (key : List ℕ) (held : List Held) (h : Held) (start : ℕ) (found : Result (Option KeyValue) ReadFault) (rows new : List KeyValue) → start < length held → h ≡ get_or held start h → key ≡ (get_or held start h).key_op.now.key →
-    AllByRecursion (λ x. contains range x.key_op.now.key ≡ true) held → IfOk found (λ x. IfSome x (λ row. row.key ≡ key)) → Adds found rows new None →
+    AllByRecursion (λ x. contains range x.key_op.now.key ≡ true) held → IfOk found (λ x. IfSome x (λ row. row.key ≡ key)) → AddsRow found rows new None →
     All (λ row. IsTrue (contains range row.key)) rows → All (λ row. IsTrue (contains range row.key)) new
 range-more range key held h start found rows new lt at is-key all keyed adds inside =
     let one : contains range (get_or held start h).key_op.now.key ≡ true = All-from_recursion (λ (x : Held). contains range x.key_op.now.key ≡ true) held all start h lt in
     range-found range key found rows new (ap (contains range) is-key ∙ one) keyed adds inside
 
-pub range-fault : (range : ByteRange) (found : Result (Option KeyValue) ReadFault) (rows new : List KeyValue) (fault : ReadFault) → Adds found rows new (Some fault) →
+pub range-fault : (range : ByteRange) (found : Result (Option KeyValue) ReadFault) (rows new : List KeyValue) (fault : ReadFault) → AddsRow found rows new (Some fault) →
     All (λ row. IsTrue (contains range row.key)) rows → All (λ row. IsTrue (contains range row.key)) new
 range-fault range found rows new fault adds inside = rw (kept-fault found rows new fault adds) inside
 

@@ -42,8 +42,8 @@ abbrev pub held_rows : Option Merge → List Held → Rows
 held_rows merge held = rows_of (read_held merge held) (dedup bytes_eq (held_keys held))
 
 -- what is added to rows that were taken: a row that was found, or nothing and the fault; want of memory adds nothing
-abbrev pub Adds : Result (Option KeyValue) ReadFault → List KeyValue → List KeyValue → Option ReadFault → Type 0
-Adds (Ok None) old new fault = (new ≡ old) × (fault ≡ None)
-Adds (Ok (Some row)) old new fault = (new ≡ old ++ row ∷ []) × (fault ≡ None)
-Adds (Err NoMemory) old new fault = ⊥
-Adds (Err refused) old new fault = (new ≡ old) × (fault ≡ Some refused)
+abbrev pub AddsRow : Result (Option KeyValue) ReadFault → List KeyValue → List KeyValue → Option ReadFault → Type 0
+AddsRow (Ok None) old new fault = (new ≡ old) × (fault ≡ None)
+AddsRow (Ok (Some row)) old new fault = (new ≡ old ++ row ∷ []) × (fault ≡ None)
+AddsRow (Err NoMemory) old new fault = ⊥
+AddsRow (Err refused) old new fault = (new ≡ old) × (fault ≡ Some refused)

@@ -40,8 +40,8 @@ pub fn scan_indexed<M: MergeOperator>(
     ensures begun { IfOk result (λ it. it ≡ begun range.now order it.rows it.fault) }
 {
     let mut keys = Vec::new(alloc);
-    take_keys(&mut keys, stored, range)?;
-    take_keys(&mut keys, memory, range)?;
+    add_range_keys(&mut keys, stored, range)?;
+    add_range_keys(&mut keys, memory, range)?;
     order_keys(&mut keys, order)?;
     let (rows, fault) = read_keys(alloc, stored, memory, bound, keys.as_slice(), operator)?;
     DbIterator::of_rows(alloc, range.clone()?, order, Seq::of(rows), fault)
@@ -49,7 +49,7 @@ pub fn scan_indexed<M: MergeOperator>(
 
 /// Adds the keys of a range that have an operation in tables, table by table, each table's in order. It takes time
 /// logarithmic in the keys of each table, and constant for each key. It copies no bytes.
-pub fn take_keys<'a, T: Indexed>(
+pub fn add_range_keys<'a, T: Indexed>(
     keys: &mut Vec<&'a Bytes>,
     tables: &'a [T],
     range: &ByteRange,
@@ -58,13 +58,13 @@ pub fn take_keys<'a, T: Indexed>(
         AreWalked (batches ++ flat_map T.batches tables.now) range.now (key_list keys.new.items)) }
 {
     for table in tables {
-        take_table_keys(keys, table.as_indexed(), range)?;
+        add_table_keys(keys, table.as_indexed(), range)?;
     }
     Ok(())
 }
 
 /// Adds the keys of a range in a table, in order.
-pub(crate) fn take_table_keys<'a>(
+pub(crate) fn add_table_keys<'a>(
     keys: &mut Vec<&'a Bytes>,
     table: &'a IndexedTable,
     range: &ByteRange,

@@ -167,7 +167,7 @@ impl DbIterator {
         ensures { Seeks (seek_at count key.now self) result }
     {
         let mut list = Vec::new(alloc);
-        self.take_rows(&mut list, count)?;
+        self.add_next_rows(&mut list, count)?;
         self.seek(key)?;
         let DbIterator {
             range: _,
@@ -185,7 +185,7 @@ impl DbIterator {
     }
 
     /// Adds the next rows to a list, up to `count`.
-    fn take_rows(&mut self, list: &mut Vec<KeyValue>, count: u64) -> Result<(), NoMemory>
+    fn add_next_rows(&mut self, list: &mut Vec<KeyValue>, count: u64) -> Result<(), NoMemory>
         ensures rows { OnOk result (list.new.items ≡ list.old.items ++ take count self.old.rows) }
         ensures after { OnOk result (self.new ≡ after_taking count self.old) }
     {

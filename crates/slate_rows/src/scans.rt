@@ -5,7 +5,7 @@ ghost use Rattle.std.specs.List.Sorted.{IsPermutation};
 ghost use Rattle.std.specs.Option.{option_copied};
 ghost use Rattle.std.specs.Str.{bytes_eq};
 ghost use Rattle.slate_types.specs.declared.scan_options.IterationOrder.{IterationOrder};
-ghost use Rattle.slate_rows.specs.Gathered.{AreGathered, Adds, AreSorted, of_key, held_rows};
+ghost use Rattle.slate_rows.specs.Gathered.{AreGathered, AddsRow, AreSorted, of_key, held_rows};
 ghost use Rattle.slate_rows.specs.Iteration.{begun};
 ghost use Rattle.slate_types.specs.Operator.{Merge};
 ghost use Rattle.slate_types.specs.Order.{AreInOrder, row_keys};
@@ -121,7 +121,7 @@ pub fn add_found(
     rows: &mut Vec<KeyValue>,
     found: Result<Option<KeyValue>, ReadFault>,
 ) -> Result<Option<ReadFault>, NoMemory>
-    ensures { IfOk result (Adds found rows.old.items rows.new.items) }
+    ensures { IfOk result (AddsRow found rows.old.items rows.new.items) }
 {
     match found {
         Ok(Some(row)) => rows.push(row)?,

@@ -57,7 +57,7 @@ abbrev pub script_by : {C : Type 0} → (List (List ℕ) → Option C) → List 
 script_by spelled bytes = commands_from spelled 1 (lines_of bytes)
 
 -- what was read is what a script holds, unless memory ran out
-abbrev pub Reads : {C : Type 0} → Result (Vec C) ScriptFault → Result (List C) ℕ → Type 0
-Reads (Ok commands) script = script ≡ Ok commands.items
-Reads (Err (faults.Line number)) script = script ≡ Err number
-Reads (Err faults.NoMemory) script = Unit {0}
+abbrev pub ReadsCommands : {C : Type 0} → Result (Vec C) ScriptFault → Result (List C) ℕ → Type 0
+ReadsCommands (Ok commands) script = script ≡ Ok commands.items
+ReadsCommands (Err (faults.Line number)) script = script ≡ Err number
+ReadsCommands (Err faults.NoMemory) script = Unit {0}

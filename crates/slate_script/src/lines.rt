@@ -1,6 +1,6 @@
 // Reading a script by its lines, each of which spells a command.
 ghost use Rattle.std.specs.Prelude.{◌≡◌, ℕ, List, Option, IfOk};
-ghost use Rattle.slate_script.specs.Lines.{Reads, line_by, script_by};
+ghost use Rattle.slate_script.specs.Lines.{ReadsCommands, line_by, script_by};
 
 use crate::fields::{cut_fields, take_line};
 use crate::{LineAnswer, ScriptFault};
@@ -43,7 +43,7 @@ pub(crate) fn read_line_of<C: FromFields>(
 /// spells none. Lines without bytes and those that begin with `#` hold no command. It copies the script once, and takes
 /// time in proportion to it and to what `from_fields` takes of each line.
 pub fn read_lines<C: FromFields>(alloc: Global, bytes: &[u8]) -> Result<Vec<C>, ScriptFault>
-    ensures reads { Reads result (script_by C.spelled bytes.now) }
+    ensures reads { ReadsCommands result (script_by C.spelled bytes.now) }
 {
     let mut rest = Bytes::copy_from_slice(alloc, bytes)?;
     let mut commands = Vec::new(alloc);

@@ -1,6 +1,6 @@
 // Reading the commands of a whole script.
 ghost use Rattle.std.specs.Prelude.{◌≡◌};
-ghost use Rattle.slate_script.specs.Lines.{Reads};
+ghost use Rattle.slate_script.specs.Lines.{ReadsCommands};
 ghost use Rattle.slate_script.specs.Scripts.{script_of};
 
 use crate::lines::read_lines;
@@ -11,7 +11,7 @@ use std::alloc::Global;
 /// once; keys and values share that copy, except those that are spelled with `%`. It takes time in proportion to the
 /// script.
 pub fn read_script(alloc: Global, bytes: &[u8]) -> Result<Vec<Command>, ScriptFault>
-    ensures reads { Reads result (script_of bytes.now) }
+    ensures reads { ReadsCommands result (script_of bytes.now) }
 {
     read_lines(alloc, bytes)
 }

@@ -15,7 +15,7 @@ use Rattle.std.specs.declared.cmp.Ordering.TheVariants.{Less, Equal, Greater}
 use Rattle.std.proofs.lemmas.List.Folds.{list_any-append}
 use Rattle.std.proofs.lemmas.Map.Lookups.{btree_set_from_contains, exact_bytes}
 use Rattle.slate_types.specs.Range.{key_cmp}
-use Rattle.slate_status.specs.Segments.{AreRising, set_of, union_of}
+use Rattle.slate_status.specs.Segments.{PrefixesRise, set_of, union_of}
 use Rattle.slate_segments.specs.Prefixes.{HaveSame, is_one_of}
 
 -- ---- the order
@@ -92,12 +92,12 @@ rising-below : (p : List ℕ) (es : List (List ℕ × Unit {0})) → T (below_al
 rising-below p [] h = tt
 rising-below p (e ∷ es) h = (less-is (key_cmp p e.0) (and-left _ _ h), rising-below p es (and-right _ _ h))
 
-rising-entries : (es : List (List ℕ × Unit {0})) → T (is_sorted key_cmp es) → AreRising (map (λ (e : List ℕ × Unit {0}). e.0) es)
+rising-entries : (es : List (List ℕ × Unit {0})) → T (is_sorted key_cmp es) → PrefixesRise (map (λ (e : List ℕ × Unit {0}). e.0) es)
 unfolding IsStrictlySortedBy
 rising-entries [] h = tt
 rising-entries (e ∷ es) h = (rising-below e.0 es (and-left _ _ h), rising-entries es (and-right _ _ h))
 
-pub rising-keys : (ps : List (List ℕ)) → AreRising (keys (set_of ps))
+pub rising-keys : (ps : List (List ℕ)) → PrefixesRise (keys (set_of ps))
 rising-keys ps = let s : FinMap key_cmp (Unit {0}) = set_of ps in rising-entries (entries s) (entries_sorted s)
 
 either-is_some : (b : Bool) (x : Option (Unit {0})) → is_some (cond b (Some tt) x) ≡ (b || is_some x)
@@ -114,11 +114,11 @@ pub members-keys : (ps : List (List ℕ)) → HaveSame (keys (set_of ps)) ps
 members-keys ps q = sym (contains_key-keys (set_of ps) q) ∙ sym (members-set_of ps q)
 
 -- two rising lists of the same prefixes are one
-pub rising-same : (a b : List (List ℕ)) → AreRising a → AreRising b → HaveSame a b → a ≡ b
+pub rising-same : (a b : List (List ℕ)) → PrefixesRise a → PrefixesRise b → HaveSame a b → a ≡ b
 rising-same a b ra rb same = btree_set_from_contains nat_list_cmp_total (record { keys = a }) (record { keys = b }) ra rb same exact_bytes
 
 -- a rising list of the prefixes of two lists is their union
-pub union-is : (some others all : List (List ℕ)) → AreRising all → HaveSame all (some ++ others) → all ≡ union_of some others
+pub union-is : (some others all : List (List ℕ)) → PrefixesRise all → HaveSame all (some ++ others) → all ≡ union_of some others
 union-is some others all rising same = rising-same all (union_of some others) rising (rising-keys (some ++ others)) (λ q. same q ∙ sym (members-keys (some ++ others) q))
 
 -- ---- what an insertion adds
@@ -133,13 +133,13 @@ inserted old new k h q =
     h q ∙ ap (λ c. cond c true (is_one_of old q)) (either-way k q) ∙ (or-swap (eq_by_cmp key_cmp q k) (is_one_of old q) ∙ sym (one_of-append old (k ∷ []) q))
 
 -- ---- all of them, or none
-pub no-rising : AreRising []
+pub no-rising : PrefixesRise []
 unfolding IsStrictlySortedBy
 no-rising = tt
 
-pub rising-kept : (keep : Bool) (some all : List (List ℕ)) → AreRising all → some ≡ cond keep all [] → AreRising some
-rising-kept true some all rising is = subst AreRising (sym is) rising
-rising-kept false some all rising is = subst AreRising (sym is) no-rising
+pub rising-kept : (keep : Bool) (some all : List (List ℕ)) → PrefixesRise all → some ≡ cond keep all [] → PrefixesRise some
+rising-kept true some all rising is = subst PrefixesRise (sym is) rising
+rising-kept false some all rising is = subst PrefixesRise (sym is) no-rising
 
 or-none : (a b : Bool) → b ≡ false → (a || b) ≡ a
 or-none true b none = refl
@@ -178,5 +178,5 @@ one_of-at ks i k q inside item same =
 pub union-same : (some others all : List (List ℕ)) → all ≡ union_of some others → HaveSame all (some ++ others)
 union-same some others all is q = ap (λ ps. is_one_of ps q) is ∙ members-keys (some ++ others) q
 
-pub union-rising : (some others all : List (List ℕ)) → all ≡ union_of some others → AreRising all
-union-rising some others all is = subst AreRising (sym is) (rising-keys (some ++ others))
+pub union-rising : (some others all : List (List ℕ)) → all ≡ union_of some others → PrefixesRise all
+union-rising some others all is = subst PrefixesRise (sym is) (rising-keys (some ++ others))

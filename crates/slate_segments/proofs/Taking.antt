@@ -10,7 +10,7 @@ use Rattle.std.specs.Cmp.Lexicographic.{nat_list_cmp_total}
 use Rattle.slate_types.specs.declared.batches.Batch.{Batch}
 use Rattle.slate_types.specs.declared.batches.KeyOp.{KeyOp}
 use Rattle.slate_errors.specs.declared.errors.SlateError.{SlateError}
-use Rattle.slate_status.specs.Segments.{AreRising, union_of}
+use Rattle.slate_status.specs.Segments.{PrefixesRise, union_of}
 use Rattle.slate_model.specs.Segments.{Extractor, empty_refusal, ops_of, prefixes_of, segments_of, unsegmented_refusal}
 use Rattle.slate_segments.specs.Prefixes.{HaveSame, is_one_of}
 use Rattle.slate_segments.proofs.Prefixes.{members-keys, no-rising, one_of-append, rising-keys, rising-same, same-equal, same-known, union-is}
@@ -107,7 +107,7 @@ module _ (x : Extractor) (batches : List Batch) (i : ℕ) (batch : Batch) (insid
 
 -- ---- all of them
 -- what rises and has the prefixes of batches are their segments
-pub segments-replayed : (x : Extractor) (taken : List (List ℕ)) (batches : List Batch) → AreRising taken → HaveSame taken (prefixes_of x (ops_of batches)) → taken ≡ segments_of (Some x) batches
+pub segments-replayed : (x : Extractor) (taken : List (List ℕ)) (batches : List Batch) → PrefixesRise taken → HaveSame taken (prefixes_of x (ops_of batches)) → taken ≡ segments_of (Some x) batches
 segments-replayed x taken batches rising took = union-is [] (prefixes_of x (ops_of batches)) taken rising took
 
 -- the union of the segments of two lists of batches are those of both

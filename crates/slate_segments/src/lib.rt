@@ -3,7 +3,7 @@
 #![tactic(auto)]
 
 mod extractors;
-mod segments;
+mod replayed_prefixes;
 
 pub use extractors::{extractor_refusal, name_of};
-pub use segments::{replayed_segments, segment_of, take_segments};
+pub use replayed_prefixes::{replayed_segments, segment_of, take_segments};

@@ -3,7 +3,7 @@ use Rattle.std.proofs.Common.{◌≡◌, refl, ap, ◌∙◌, ℕ, suc, ◌≤�
 use Rattle.std.specs.Int.{w64, cast_signed}
 use Rattle.slate_seqtrack.specs.Block.{is_encodable}
 use Rattle.slate_seqtrack.specs.Bytes.{has_bytes, packed}
-use Rattle.slate_seqtrack.specs.Kept.{IsKept, AreRecorded}
+use Rattle.slate_seqtrack.specs.Kept.{IsKeptTracker, AreRecorded}
 use Rattle.slate_seqtrack.specs.Thinning.{last_alone}
 use Rattle.slate_seqtrack.specs.Tracker.{Tracker, paired}
 use Rattle.slate_seqtrack.specs.declared.pairs.TrackedSeq.{TrackedSeq}
@@ -36,9 +36,9 @@ recorded-last_alone : (recorded : Option ℤ) (times : List ℤ) → AreRecorded
 recorded-last_alone None times none = ap last_alone none
 recorded-last_alone (Some last) times all = All-last_alone (λ time. time ≤ℤ last) times all
 
-pub IsKept-alone : (capacity : ℕ) (recorded : Option ℤ) (ns ns' : List ℕ) (ts ts' : List ℤ) (a a' b b' : ℕ) → IsKept capacity recorded ns ts a b →
-    ns' ≡ last_alone ns → ts' ≡ last_alone ts → a' ≡ a → b' ≡ b → IsKept capacity recorded ns' ts' a' b'
-IsKept-alone capacity recorded ns ns' ts ts' a a' b b' kept ns-is ts-is a-is b-is =
+pub IsKeptTracker-alone : (capacity : ℕ) (recorded : Option ℤ) (ns ns' : List ℕ) (ts ts' : List ℤ) (a a' b b' : ℕ) → IsKeptTracker capacity recorded ns ts a b →
+    ns' ≡ last_alone ns → ts' ≡ last_alone ts → a' ≡ a → b' ≡ b → IsKeptTracker capacity recorded ns' ts' a' b'
+IsKeptTracker-alone capacity recorded ns ns' ts ts' a a' b b' kept ns-is ts-is a-is b-is =
     let numbers = length-last_alone ns in
     let times = length-last_alone ts in
     let short-numbers : length (last_alone ns) ≤ 1 = numbers.0 in

@@ -14,7 +14,7 @@ use Rattle.std.proofs.Math.Seq.{get_or-append_seam}
 use Rattle.std.proofs.lemmas.List.Sorted.{sorted_far, ranks_by}
 use Rattle.slate_seqtrack.specs.Thinning.{evens, thinned}
 use Rattle.slate_seqtrack.specs.Tracker.{is_early}
-use Rattle.slate_seqtrack.specs.Kept.{IsKept, AreRecorded, HasRoom}
+use Rattle.slate_seqtrack.specs.Kept.{IsKeptTracker, AreRecorded, HasRoom}
 use Rattle.slate_seqtrack.proofs.Evens.{length-evens, get_or-evens}
 
 module _ {X : Type 0} {R : X → X → Ordering} (o : IsTotalOrder R) where
@@ -113,10 +113,10 @@ HasRoom-thinned capacity room xs y (wide, free) =
     elim (thinned-sizes capacity (xs ++ y ∷ [])) [ inl h ↦ (wide, omega arith) | inr h ↦ (wide, omega (arith, length-append xs (y ∷ []))) ]
 
 -- what a tracker keeps after a pair was recorded
-pub IsKept-recorded : (capacity interval : ℕ) (recorded : Option ℤ) (ns ns' : List ℕ) (ts ts' : List ℤ) (a a' b b' n : ℕ) (t : ℤ) →
-    IsKept capacity recorded ns ts a b → capacity < 2 ^ 32 → is_early interval recorded t ≡ false → IfSome (slice_get ns (length ns - 1)) (λ m. m ≤ n) →
-    ns' ≡ thinned capacity (ns ++ n ∷ []) → ts' ≡ thinned capacity (ts ++ t ∷ []) → a' ≡ a → b' ≡ b → IsKept capacity (Some t) ns' ts' a' b'
-IsKept-recorded capacity interval recorded ns ns' ts ts' a a' b b' n t kept small late last ns-is ts-is a-is b-is =
+pub IsKeptTracker-recorded : (capacity interval : ℕ) (recorded : Option ℤ) (ns ns' : List ℕ) (ts ts' : List ℤ) (a a' b b' n : ℕ) (t : ℤ) →
+    IsKeptTracker capacity recorded ns ts a b → capacity < 2 ^ 32 → is_early interval recorded t ≡ false → IfSome (slice_get ns (length ns - 1)) (λ m. m ≤ n) →
+    ns' ≡ thinned capacity (ns ++ n ∷ []) → ts' ≡ thinned capacity (ts ++ t ∷ []) → a' ≡ a → b' ≡ b → IsKeptTracker capacity (Some t) ns' ts' a' b'
+IsKeptTracker-recorded capacity interval recorded ns ns' ts ts' a a' b b' n t kept small late last ns-is ts-is a-is b-is =
     rw (ns-is, ts-is, a-is, b-is)
     (record {
       paired = rises.same;
@@ -208,9 +208,9 @@ AreRecorded-last (t ∷ times) up =
     below : (u last : ℤ) → is_lt (int_cmp last u) ≡ false → u ≤ℤ last
     below u last h = grind (arith, ints)
 
-pub IsKept-read : (numbers ns : List ℕ) (times ts : List ℤ) (recorded : Option ℤ) (a b room : ℕ) → AreLists numbers times → ns ≡ numbers → ts ≡ times →
-    recorded ≡ slice_get times (length times - 1) → a ≡ room → b ≡ room → 8194 ≤ room → length numbers + 2 ≤ room → IsKept 8192 recorded ns ts a b
-IsKept-read numbers ns times ts recorded a b room lists ns-is ts-is recorded-is a-is b-is wide long =
+pub IsKeptTracker-read : (numbers ns : List ℕ) (times ts : List ℤ) (recorded : Option ℤ) (a b room : ℕ) → AreLists numbers times → ns ≡ numbers → ts ≡ times →
+    recorded ≡ slice_get times (length times - 1) → a ≡ room → b ≡ room → 8194 ≤ room → length numbers + 2 ≤ room → IsKeptTracker 8192 recorded ns ts a b
+IsKeptTracker-read numbers ns times ts recorded a b room lists ns-is ts-is recorded-is a-is b-is wide long =
     rw (ns-is, ts-is, recorded-is, a-is, b-is)
     (record {
       paired = lists.same;

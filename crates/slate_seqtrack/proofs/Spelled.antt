@@ -14,7 +14,7 @@ use Rattle.slate_seqtrack.specs.Bits.{low_bits, number_of, bits_of}
 use Rattle.slate_seqtrack.specs.declared.faults.TrackerFault.{TrackerFault}
 use Rattle.slate_seqtrack.specs.Block.{fits_i64, IsSigned, IsCode, in_0, in_7, in_9, in_12, in_32, IsFirstCode, AreLater, AreValues, AreCounted}
 use Rattle.slate_seqtrack.specs.Bytes.{as_signed, AreLists, AreTrackerBytes, lists_at, read_then, tracker_at, tracker_of}
-use Rattle.slate_seqtrack.specs.Kept.{IsKept}
+use Rattle.slate_seqtrack.specs.Kept.{IsKeptTracker}
 use Rattle.slate_seqtrack.specs.Spelling.{in_bits, first_code, later_bits, values_bits, counted_bits, first_byte, bytes_in, filled, block_of, lists_bytes}
 use Rattle.slate_seqtrack.specs.Writing.{IsWrittenBlock}
 use Rattle.slate_seqtrack.proofs.Binary.{length-low_bits, low_bits-mod, number_of-low_bits, length-bits_of}
@@ -227,7 +227,7 @@ numbers-fit [] fit = tt
 numbers-fit (n ∷ numbers) fit = (fit 0, numbers-fit numbers (λ i. fit (suc i)))
 
 -- the lists of a tracker that is kept
-pub kept-lists : (capacity : ℕ) (recorded : Option ℤ) (numbers : List ℕ) (times : List ℤ) (a b : ℕ) → IsKept capacity recorded numbers times a b →
+pub kept-lists : (capacity : ℕ) (recorded : Option ℤ) (numbers : List ℕ) (times : List ℤ) (a b : ℕ) → IsKeptTracker capacity recorded numbers times a b →
     AllByRecursion (λ n. n < 2 ^ 64) numbers → AllByRecursion (λ t. fits_i64 t ≡ true) times → AreLists numbers times
 kept-lists capacity recorded numbers times a b kept numbers_fit times_fit = record {
   same = kept.paired;

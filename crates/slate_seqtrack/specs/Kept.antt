@@ -11,7 +11,7 @@ AreRecorded recorded times = MatchOption recorded (times ≡ []) (λ last. All (
 abbrev pub HasRoom : ℕ → ℕ → ℕ → Type 0
 HasRoom capacity count room = (capacity + 2 ≤ room) × (count < room)
 
-pub record IsKept (capacity : ℕ) (recorded : Option ℤ) (numbers : List ℕ) (times : List ℤ) (numbers_room times_room : ℕ) : Type 0 where
+pub record IsKeptTracker (capacity : ℕ) (recorded : Option ℤ) (numbers : List ℕ) (times : List ℤ) (numbers_room times_room : ℕ) : Type 0 where
   pub paired : length times ≡ length numbers
   pub few : length numbers < 2 ^ 32
   pub room_for_numbers : HasRoom capacity (length numbers) numbers_room

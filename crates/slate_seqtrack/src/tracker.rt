@@ -64,9 +64,9 @@ impl Model for SequenceTracker {
     } };
 
     ghost use Rattle.std.specs.Vec.{vec_capacity};
-    ghost use Rattle.slate_seqtrack.specs.Kept.{IsKept};
+    ghost use Rattle.slate_seqtrack.specs.Kept.{IsKeptTracker};
 
-    ghost invariant = { λ t. IsKept t.capacity t.last_recorded_ts t.sequence_numbers.items t.timestamps.items
+    ghost invariant = { λ t. IsKeptTracker t.capacity t.last_recorded_ts t.sequence_numbers.items t.timestamps.items
         (vec_capacity t.sequence_numbers) (vec_capacity t.timestamps) };
 }
 

@@ -15,7 +15,7 @@ use Rattle.std.proofs.lemmas.Map.Lookups.{btree_set_from_contains, exact_bytes}
 use Rattle.std.proofs.lemmas.Map.Views.{btree_set_contains_iff, btree_set_contains_from_list}
 use Rattle.std.specs.List.Sorted.{IsSearchInRange, IsStrictlySortedBy}
 use Rattle.slate_status.specs.Records.{Record, Reports, with_segments}
-use Rattle.slate_status.specs.Segments.{AreRising, IsUnion, set_of, union_of}
+use Rattle.slate_status.specs.Segments.{PrefixesRise, IsUnion, set_of, union_of}
 use Rattle.slate_status.specs.declared.segments.SegmentPrefix.{SegmentPrefix}
 
 in_either : (first second : List (List ℕ)) (p : List ℕ) → Contains first p ⊎ Contains second p → Contains (first ++ second) p
@@ -54,7 +54,7 @@ rising-below : (p : List ℕ) (es : List (List ℕ × Unit {0})) → T (below_al
 rising-below p [] h = tt
 rising-below p (e ∷ es) h = (less-is (slice_cmp nat_cmp p e.0) (and-left _ _ h), rising-below p es (and-right _ _ h))
 
-rising-entries : (es : List (List ℕ × Unit {0})) → T (is_sorted (slice_cmp nat_cmp) es) → AreRising (map (λ (e : List ℕ × Unit {0}). e.0) es)
+rising-entries : (es : List (List ℕ × Unit {0})) → T (is_sorted (slice_cmp nat_cmp) es) → PrefixesRise (map (λ (e : List ℕ × Unit {0}). e.0) es)
 unfolding IsStrictlySortedBy
 rising-entries [] h = tt
 rising-entries (e ∷ es) h = (rising-below e.0 es (and-left _ _ h), rising-entries es (and-right _ _ h))
@@ -78,7 +78,7 @@ set_is_union first second all union set joined made listed =
     (λ q. made.0 q ∙ (ap (list_any (eq_by_cmp (slice_cmp nat_cmp) q)) joined ∙ (members-set_of (first ++ second) q ∙ contains_key-keys either q))) exact_bytes
 
 -- no prefix is rising
-pub rising-nil : AreRising []
+pub rising-nil : PrefixesRise []
 unfolding IsStrictlySortedBy
 rising-nil = tt
 
@@ -98,7 +98,7 @@ All-take_more present prefixes i p within is here before =
     rw (take_more prefixes i p within) (All-push (Contains present) (take i prefixes) (get_or prefixes i p) before (subst (λ q. Contains present q) is here))
 
 -- where all are there, the union is what is there, and nothing is reported
-pub nothing_added : (old : Record) (present prefixes : List (List ℕ)) → present ≡ old.segments → AreRising present → All (Contains present) prefixes
+pub nothing_added : (old : Record) (present prefixes : List (List ℕ)) → present ≡ old.segments → PrefixesRise present → All (Contains present) prefixes
     → (added : List (List ℕ)) × IsUnion old.segments prefixes added × Reports old (with_segments added old) old false
 nothing_added old present prefixes is rising all = (
   old.segments,

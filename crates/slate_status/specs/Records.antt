@@ -72,7 +72,7 @@ abbrev pub risen : Record → Record
 risen r = record r { version = one_more r.version }
 
 -- what a part of a report leaves: this record, and whether it differs from the old one
-pub record Takes (old wanted new : Record) (changed : Bool) : Type 0 where
+pub record TakesReport (old wanted new : Record) (changed : Bool) : Type 0 where
   pub taken : new ≡ wanted
   pub differs : changed ≡ true → wanted ≢ old
   pub same : changed ≡ false → wanted ≡ old

@@ -7,12 +7,12 @@ use Rattle.std.specs.List.Sorted.{IsStrictlySortedBy}
 use Rattle.slate_status.specs.declared.statuses.DbStatus.{DbStatus}
 
 -- each prefix is above the one before it, and so there once
-abbrev pub AreRising : List (List ℕ) → Type 0
-AreRising prefixes = IsStrictlySortedBy (slice_cmp nat_cmp) prefixes
+abbrev pub PrefixesRise : List (List ℕ) → Type 0
+PrefixesRise prefixes = IsStrictlySortedBy (slice_cmp nat_cmp) prefixes
 
 -- the prefixes of either list, rising
 pub record IsUnion (first second union : List (List ℕ)) : Type 0 where
-  pub rising : AreRising union
+  pub rising : PrefixesRise union
   pub members : (prefix : List ℕ) → Contains union prefix ↔ (Contains first prefix ⊎ Contains second prefix)
 
 -- the set of these prefixes

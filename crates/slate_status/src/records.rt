@@ -37,18 +37,18 @@ impl Drop for StatusRecord {
 
 impl Model for StatusRecord {
     ghost use Rattle.slate_status.specs.Records.{Record};
-    ghost use Rattle.slate_status.specs.Segments.{AreRising};
+    ghost use Rattle.slate_status.specs.Segments.{PrefixesRise};
 
     ghost Value = { Record };
 
     ghost view = { λ r. record { version = r.version; durable = r.durable; manifest = r.manifest; segments = r.segments; result = r.closed } };
 
-    ghost invariant = { λ r. AreRising r.segments };
+    ghost invariant = { λ r. PrefixesRise r.segments };
 }
 
 impl StatusRecord {
-    ghost use Rattle.slate_status.specs.Records.{Record, Reports, Takes, durable_answer, risen, status_of, with_durable, with_manifest, with_result, with_segments, with_view};
-    ghost use Rattle.slate_status.specs.Segments.{AreRising, IsUnion};
+    ghost use Rattle.slate_status.specs.Records.{Record, Reports, TakesReport, durable_answer, risen, status_of, with_durable, with_manifest, with_result, with_segments, with_view};
+    ghost use Rattle.slate_status.specs.Segments.{PrefixesRise, IsUnion};
 
     /// The record of version 0, of this durable number and manifest, without a prefix and a result. It takes no memory.
     pub fn new(alloc: Global, durable: u64, manifest: VersionedManifest) -> StatusRecord
@@ -87,7 +87,7 @@ impl StatusRecord {
     /// A copy of the status. Its prefixes are rising, each there once.
     pub fn status(&self, alloc: Global) -> Result<DbStatus, NoMemory>
         ensures status { IfOk result (λ status. status ≡ status_of self.now) }
-        ensures rising { IfOk result (λ status. AreRising status.memtable_segments) }
+        ensures rising { IfOk result (λ status. PrefixesRise status.memtable_segments) }
     {
         Ok(DbStatus {
             durable_seq: self.durable,
@@ -152,7 +152,7 @@ impl StatusRecord {
     /// Reports the prefixes of the segments that batches outside of tables are in, rising, each once. Prefixes that
     /// equal the present ones change nothing. It takes no memory.
     pub fn report_memtable_segments(&mut self, prefixes: Seq<Bytes>) -> bool
-        requires { AreRising prefixes }
+        requires { PrefixesRise prefixes }
         ensures { Reports self.old (with_segments prefixes self.old) self.new result }
     {
         let changed = self.take_segments(prefixes);
@@ -165,7 +165,7 @@ impl StatusRecord {
         manifest: VersionedManifest,
         prefixes: Seq<Bytes>,
     ) -> bool
-        requires { AreRising prefixes }
+        requires { PrefixesRise prefixes }
         ensures { Reports self.old (with_segments prefixes (with_manifest manifest self.old)) self.new result }
     {
         let manifest_changed = self.take_manifest(manifest);
@@ -218,7 +218,7 @@ impl StatusRecord {
 
     // Takes a manifest unless its id is too low, and answers whether it differs from the present one.
     fn take_manifest(&mut self, manifest: VersionedManifest) -> bool
-        ensures { Takes self.old (with_manifest manifest self.old) self.new result }
+        ensures { TakesReport self.old (with_manifest manifest self.old) self.new result }
     {
         if manifest.id < self.manifest.id || is_same_manifest(&manifest, &self.manifest) {
             return false;
@@ -229,8 +229,8 @@ impl StatusRecord {
 
     // Takes prefixes, and answers whether they differ from the present ones.
     fn take_segments(&mut self, prefixes: Seq<Bytes>) -> bool
-        requires { AreRising prefixes }
-        ensures { Takes self.old (with_segments prefixes self.old) self.new result }
+        requires { PrefixesRise prefixes }
+        ensures { TakesReport self.old (with_segments prefixes self.old) self.new result }
     {
         if are_same_prefixes(prefixes.as_slice(), self.segments.as_slice()) {
             return false;

@@ -3,7 +3,7 @@ ghost use Rattle.std.specs.Prelude.{◌≡◌, ◌++◌, true, IfOk, IsTrue, All
 ghost use Rattle.std.specs.Ordering.{nat_cmp};
 ghost use Rattle.std.specs.Cmp.Lexicographic.{slice_cmp};
 ghost use Rattle.std.specs.BTreeSet.{IsFromIterResult};
-ghost use Rattle.slate_status.specs.Segments.{AreRising, IsUnion, union_of};
+ghost use Rattle.slate_status.specs.Segments.{PrefixesRise, IsUnion, union_of};
 
 use bytes::Bytes;
 use slate_types::NoMemory;
@@ -40,7 +40,7 @@ fn set_of(alloc: Global, prefixes: Vec<Bytes>) -> Result<BTreeSet<Bytes>, NoMemo
 /// The prefixes of a set, rising.
 pub fn listed(alloc: Global, set: BTreeSet<Bytes>) -> Result<Vec<Bytes>, NoMemory>
     ensures listed { IfOk result (λ prefixes. prefixes.items ≡ set.keys) }
-    ensures rising { IfOk result (λ prefixes. AreRising prefixes.items) }
+    ensures rising { IfOk result (λ prefixes. PrefixesRise prefixes.items) }
 {
     Ok(set.into_iter().collect(alloc)?)
 }

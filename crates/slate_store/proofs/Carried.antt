@@ -6,7 +6,7 @@ use Rattle.std.proofs.lemmas.Map.Entries.{lookup-filter-keys}
 use Rattle.std.specs.BTreeMap.{insert_entry, is_at}
 use Rattle.std.specs.Ordering.{nat_cmp}
 use Rattle.slate_store.specs.Changes.{after_part}
-use Rattle.slate_store.specs.Content.{AreRising}
+use Rattle.slate_store.specs.Content.{IdsRise}
 use Rattle.slate_store.specs.Objects.{ChangeOf, ObjectsOf, PutLog, PutManifest, PutTable, RemoveLog, RemoveManifest, RemoveTable, changed, entry_at, last, latest_manifest, versioned}
 use Rattle.slate_store.specs.declared.objects.Manifest.{Manifest}
 use Rattle.slate_store.specs.declared.objects.VersionedManifest.{VersionedManifest}
@@ -42,7 +42,7 @@ module _ {L : Type 0} (P : Manifest → Type 0) where
 
   -- the ids of manifests rise up to that of the latest one
   abbrev Rising : ObjectsOf L → Type 0
-  Rising o = AreRising (map (λ e. e.0) o.manifests)
+  Rising o = IdsRise (map (λ e. e.0) o.manifests)
 
   below : (id k : ℕ) (o : ObjectsOf L) → k ≤ id → Carried id o → Carried k o
   below id k o low c = let up = c.up in record { latest = c.latest; is = c.is; up = omega (arith, low, up); holds = c.holds }
@@ -61,8 +61,8 @@ module _ {L : Type 0} (P : Manifest → Type 0) where
 
     pub put-rising : (m : Manifest) → Rising (changed (PutManifest (latest.id + 1) m) o)
     put-rising m =
-        subst (λ es. AreRising (map (λ e. e.0) es)) (sym (pushed-is m))
-        (subst AreRising (sym (map-append (λ (e : ℕ × Manifest). e.0) o.manifests ((latest.id + 1, m) ∷ [])))
+        subst (λ es. IdsRise (map (λ e. e.0) es)) (sym (pushed-is m))
+        (subst IdsRise (sym (map-append (λ (e : ℕ × Manifest). e.0) o.manifests ((latest.id + 1, m) ∷ [])))
         (rising-push latest.id (latest.id + 1) (map (λ e. e.0) o.manifests) rising (rising-last (latest.id, latest.manifest) o.manifests rising last_is) (omega arith)))
 
     removed-last : (old : ℕ) → old < latest.id → latest_manifest (changed (RemoveManifest old) o) ≡ Some latest

@@ -4,7 +4,7 @@ use Rattle.slate_store.proofs.Gapless.{between-front, gapless-greatest}
 use Rattle.slate_store.proofs.Kept.{Stays, logs-kept, manifest-keeps, pinned-kept, pins-after, tables-kept}
 use Rattle.slate_store.proofs.Latest.{all-greatest, ids-within, its-objects, rising-push}
 use Rattle.slate_store.specs.Checkpoints.{checkpoint_id}
-use Rattle.slate_store.specs.Content.{AreGapless, AreRising, HasItsLogs, HasItsObjects, HasItsTables, IsPinned, IsSound, ReadsSame, content, content_by, logged, logs_above, number_before, pinned_content, table_batches}
+use Rattle.slate_store.specs.Content.{AreGapless, IdsRise, HasItsLogs, HasItsObjects, HasItsTables, IsPinned, IsSound, ReadsSame, content, content_by, logged, logs_above, number_before, pinned_content, table_batches}
 use Rattle.slate_store.specs.Logs.{batches_between}
 use Rattle.slate_store.specs.Objects.{Objects, PutManifest, changed, entry_at, last, latest_manifest, log_at, versioned}
 use Rattle.slate_store.specs.declared.objects.Checkpoint.{Checkpoint}
@@ -158,7 +158,7 @@ module _ (o : Objects) (latest : VersionedManifest) (m : Manifest) (sound : IsSo
       } in
       record {
         sound = record {
-          manifests = subst AreRising (sym (ap (map (λ e. e.0)) manifests-after ∙ map-append (λ e. e.0) o.manifests ((next.id, m) ∷ []))) rising;
+          manifests = subst IdsRise (sym (ap (map (λ e. e.0)) manifests-after ∙ map-append (λ e. e.0) o.manifests ((next.id, m) ∷ []))) rising;
           logs = sound.logs;
           tables = sound.tables;
           nothing = λ none. absurd (let some = latest-after in cc);

@@ -1,5 +1,5 @@
 -- Entries under their keys: what a put and a removal leave, an entry behind all others, and what is last in a list.
-use Rattle.slate_store.specs.Content.{AreRising}
+use Rattle.slate_store.specs.Content.{IdsRise}
 use Rattle.slate_store.specs.Objects.{entry_at, greatest, last, table_cmp, without}
 use Rattle.slate_store.specs.declared.objects.TableId.{TableId}
 use Rattle.std.proofs.Common.{◌++◌, ◌-◌, ◌<◌, ◌∙◌, ◌∷◌, ◌≡◌, ◌≢◌, [], Bool, List, None, Some, ap, arith, cond, false, get_or, inl, inr, length, length-append, map, not, refl, sub-one, sym, true, ℕ}
@@ -93,9 +93,9 @@ module _ {X K : Type 0} (key : X → K) (test : X → Bool) where
     | false ↦ distinct-filter eq xs differ.1
   ]
 
-pub rising-filter : {X : Type 0} (key : X → ℕ) (test : X → Bool) (xs : List X) → AreRising (map key xs) → AreRising (map key (filter test xs))
+pub rising-filter : {X : Type 0} (key : X → ℕ) (test : X → Bool) (xs : List X) → IdsRise (map key xs) → IdsRise (map key (filter test xs))
 rising-filter key test [] rising = tt
-rising-filter key test (x ∷ xs) rising = elim (test x) as (λ t. AreRising (map key (cond t (x ∷ filter test xs) (filter test xs)))) [
+rising-filter key test (x ∷ xs) rising = elim (test x) as (λ t. IdsRise (map key (cond t (x ∷ filter test xs) (filter test xs)))) [
   | true ↦ (all-filter key test (λ later. key x < later) xs rising.0, rising-filter key test xs rising.1)
   | false ↦ rising-filter key test xs rising.1
 ]

@@ -20,7 +20,7 @@ use Rattle.slate_store.specs.declared.objects.TableId.{TableId}
 use Rattle.slate_store.specs.declared.objects.VersionedManifest.{VersionedManifest}
 use Rattle.slate_store.specs.Objects.{Change, Objects, changed, is_present, table_at}
 use Rattle.slate_store.specs.Refusals.{FindsLatest, refusal_of}
-use Rattle.slate_store.specs.Steps.{Adds, Joins, PutsBoth}
+use Rattle.slate_store.specs.Steps.{AddsBatches, Joins, PutsBoth}
 
 -- a put of the table that was refused
 table-refused : (table manifest : Change) (e : StoreError) (o o' : Objects) → Puts table (Err e) o o' → (made : ℕ) × PutsBoth table manifest (Err (refusal_of e)) made o o'
@@ -100,7 +100,7 @@ unread ids i id d errors.Failed o less is none = tt
 unread ids i id d errors.NoMemory o less is none = tt
 
 -- a table whose batches don't go on from those before it, or that found no memory
-pub unadded : (ids : List TableId) (i : ℕ) (id d : TableId) (joined table joined' : List Batch) (e : StoreRefusal) (o : Objects) → i < length ids → id ≡ get_or ids i d → joined ≡ table_batches o (take i ids) → table_at id o ≡ Some table → Adds joined table (Err e) joined' → Joins ids o (Err e)
+pub unadded : (ids : List TableId) (i : ℕ) (id d : TableId) (joined table joined' : List Batch) (e : StoreRefusal) (o : Objects) → i < length ids → id ≡ get_or ids i d → joined ≡ table_batches o (take i ids) → table_at id o ≡ Some table → AddsBatches joined table (Err e) joined' → Joins ids o (Err e)
 unadded ids i id d joined table joined' InvalidDBState o less is so_far found not_rising =
     λ rising. not_rising
     (subst AreRising (batches-more o ids i id d table less is found ∙ ap (λ xs. xs ++ table) (sym so_far))

@@ -1,6 +1,6 @@
 -- The latest manifest of sound objects, and ids that rise.
 use Rattle.slate_store.proofs.Entries.{insert-last, last-push, nil-from-last}
-use Rattle.slate_store.specs.Content.{AreRising, HasItsObjects, IsSound, content_by}
+use Rattle.slate_store.specs.Content.{IdsRise, HasItsObjects, IsSound, content_by}
 use Rattle.slate_store.specs.Objects.{IsGreatest, Objects, PutManifest, changed, empty, greatest, last, latest_manifest, versioned}
 use Rattle.slate_store.specs.declared.objects.Manifest.{Manifest}
 use Rattle.slate_store.specs.declared.objects.VersionedManifest.{VersionedManifest}
@@ -32,7 +32,7 @@ pub last-cons : {X : Type 0} (x y : X) (xs : List X) → last (x ∷ y ∷ xs) �
 last-cons x y xs = rw (sub-one, sub-one) refl
 
 -- the last of rising ids is the greatest
-pub rising-last : {X : Type 0} (e : ℕ × X) (es : List (ℕ × X)) → AreRising (map (λ e. e.0) es) → last es ≡ Some e → AllByRecursion (λ id. id ≤ e.0) (map (λ e. e.0) es)
+pub rising-last : {X : Type 0} (e : ℕ × X) (es : List (ℕ × X)) → IdsRise (map (λ e. e.0) es) → last es ≡ Some e → AllByRecursion (λ id. id ≤ e.0) (map (λ e. e.0) es)
 rising-last e [] rising is = absurd (cc)
 rising-last {X} e (x ∷ []) rising is =
     let same : x ≡ e = cc in
@@ -50,7 +50,7 @@ all-push x id [] h less = (less, tt)
 all-push x id (y ∷ ids) h less = (h.0, all-push x id ids h.1 less)
 
 -- rising ids go on by a greater one
-pub rising-push : (k id : ℕ) (ids : List ℕ) → AreRising ids → AllByRecursion (λ x. x ≤ k) ids → k < id → AreRising (ids ++ id ∷ [])
+pub rising-push : (k id : ℕ) (ids : List ℕ) → IdsRise ids → AllByRecursion (λ x. x ≤ k) ids → k < id → IdsRise (ids ++ id ∷ [])
 rising-push k id [] rising top less = (tt, tt)
 rising-push k id (x ∷ ids) rising top less =
     let first : x ≤ k = top.0 in

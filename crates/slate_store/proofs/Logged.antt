@@ -4,7 +4,7 @@ use Rattle.slate_store.proofs.Gapless.{gapless-greatest}
 use Rattle.slate_store.proofs.Kept.{log-keeps, logs-kept, pinned-kept, pinned-reads, pins-after, tables-kept}
 use Rattle.slate_store.proofs.LastLog.{at_least}
 use Rattle.slate_store.proofs.Latest.{all-at_most, its-objects, rising-push}
-use Rattle.slate_store.specs.Content.{AreGapless, AreRising, HasItsObjects, IsPinned, IsSound, KeepsPins, ReadsSame, content, content_by, logged, logs_above, number_before, table_batches}
+use Rattle.slate_store.specs.Content.{AreGapless, IdsRise, HasItsObjects, IsPinned, IsSound, KeepsPins, ReadsSame, content, content_by, logged, logs_above, number_before, table_batches}
 use Rattle.slate_store.specs.Objects.{Objects, PutLog, changed, last_log, latest_manifest}
 use Rattle.slate_store.specs.declared.objects.Checkpoint.{Checkpoint}
 use Rattle.slate_store.specs.declared.objects.Manifest.{Manifest}
@@ -122,7 +122,7 @@ module _ (o : Objects) (latest : VersionedManifest) (bs : List Batch) (sound : I
       record {
         sound = record {
           manifests = sound.manifests;
-          logs = subst AreRising (sym (ap (map (λ e. e.0)) (logs-after o m bs) ∙ map-append (λ e. e.0) o.logs ((id, bs) ∷ []))) rising;
+          logs = subst IdsRise (sym (ap (map (λ e. e.0)) (logs-after o m bs) ∙ map-append (λ e. e.0) o.logs ((id, bs) ∷ []))) rising;
           tables = sound.tables;
           nothing = λ none. absurd (cc (none, is));
           line = subst IsLine (sym after) (numbered-append (content o).floor (content o).batches bs sound.line next);

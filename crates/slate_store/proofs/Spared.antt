@@ -3,7 +3,7 @@
 use Rattle.slate_store.proofs.Entries.{all-from_keys, all-insert, sorted-insert, table_total}
 use Rattle.slate_store.proofs.Kept.{Keeps, all-both, batches-kept, logs-kept, pinned-kept, pinned-reads, pins-same, pins-then, prefix-same, stays, table-keeps, tables-kept}
 use Rattle.slate_store.proofs.Latest.{its-objects}
-use Rattle.slate_store.specs.Content.{AreGapless, AreRising, HasItsLogs, HasItsObjects, HasItsTables, IsPinned, IsSound, ReadsSame, content, content_by, logged, logs_above, number_before, table_batches}
+use Rattle.slate_store.specs.Content.{AreGapless, IdsRise, HasItsLogs, HasItsObjects, HasItsTables, IsPinned, IsSound, ReadsSame, content, content_by, logged, logs_above, number_before, table_batches}
 use Rattle.slate_store.specs.Objects.{Objects, PutTable, changed, entry_at, latest_manifest, table_at, table_cmp}
 use Rattle.slate_store.specs.declared.objects.Checkpoint.{Checkpoint}
 use Rattle.slate_store.specs.declared.objects.Manifest.{Manifest}
@@ -46,8 +46,8 @@ pub record StaysKept (o o' : Objects) (checkpoint : Checkpoint) : Type 0 where
 -- The objects after a change are in order, the latest manifest is the same, and what it and those that its checkpoints
 -- keep name stays, with all log files above its mark.
 pub record Spares (o : Objects) (latest : VersionedManifest) (o' : Objects) : Type 0 where
-  pub manifests : AreRising (map (λ entry. entry.0) o'.manifests)
-  pub logs : AreRising (map (λ log. log.0) o'.logs)
+  pub manifests : IdsRise (map (λ entry. entry.0) o'.manifests)
+  pub logs : IdsRise (map (λ log. log.0) o'.logs)
   pub tables : IsStrictlySortedBy table_cmp (map (λ table. table.0) o'.tables)
   pub epochs : All (λ table. table.0.epoch ≤ latest.manifest.writer_epoch) o'.tables
   pub latest_is : latest_manifest o' ≡ Some latest

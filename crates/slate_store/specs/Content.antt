@@ -49,9 +49,9 @@ abbrev pub content : Objects → Line
 content objects = content_by objects (latest_manifest objects)
 
 -- each id is above those before it
-abbrev pub AreRising : List ℕ → Type 0
-AreRising [] = Unit {0}
-AreRising (id ∷ ids) = AllByRecursion (λ later. id < later) ids × AreRising ids
+abbrev pub IdsRise : List ℕ → Type 0
+IdsRise [] = Unit {0}
+IdsRise (id ∷ ids) = AllByRecursion (λ later. id < later) ids × IdsRise ids
 
 -- ids without gaps: the first follows this one, and each later one the one before it
 abbrev pub AreGapless : ℕ → List ℕ → Type 0
@@ -109,8 +109,8 @@ pub record HasItsObjects (objects : Objects) (latest : VersionedManifest) : Type
 
 -- Objects that the commands of a database leave. Without a manifest there is no log file and no table.
 pub record IsSound (objects : Objects) : Type 0 where
-  pub manifests : AreRising (map (λ entry. entry.0) objects.manifests)
-  pub logs : AreRising (map (λ log. log.0) objects.logs)
+  pub manifests : IdsRise (map (λ entry. entry.0) objects.manifests)
+  pub logs : IdsRise (map (λ log. log.0) objects.logs)
   pub tables : IsStrictlySortedBy table_cmp (map (λ table. table.0) objects.tables)
   pub nothing : latest_manifest objects ≡ None → (objects.logs ≡ []) × (objects.tables ≡ [])
   pub line : IsLine (content objects)

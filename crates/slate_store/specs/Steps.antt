@@ -25,11 +25,11 @@ Makes changes result objects objects' =
     (made : ℕ) × PartMadeBy (λ _. true) result (length changes) made × (objects' ≡ after_part made changes objects)
 
 -- Batches are added to others that rise. They are refused where the numbers don't rise from one to the next.
-abbrev pub Adds : (batches added : List Batch) → Result (Unit {0}) StoreRefusal → List Batch → Type 0
-Adds batches added (Ok _) batches' = batches' ≡ batches ++ added
-Adds batches added (Err InvalidDBState) batches' = AreRising (batches ++ added) → ⊥
-Adds batches added (Err NoMemory) batches' = Unit {0}
-Adds batches added (Err refusal) batches' = ⊥
+abbrev pub AddsBatches : (batches added : List Batch) → Result (Unit {0}) StoreRefusal → List Batch → Type 0
+AddsBatches batches added (Ok _) batches' = batches' ≡ batches ++ added
+AddsBatches batches added (Err InvalidDBState) batches' = AreRising (batches ++ added) → ⊥
+AddsBatches batches added (Err NoMemory) batches' = Unit {0}
+AddsBatches batches added (Err refusal) batches' = ⊥
 
 -- The tables with these ids are joined in this order, or one isn't stored, or their batches don't rise.
 abbrev pub Joins : List TableId → Objects → Result (List Batch) StoreRefusal → Type 0

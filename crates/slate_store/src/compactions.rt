@@ -5,7 +5,7 @@ ghost use Rattle.slate_store.specs.Compaction.{Compacts, HasTablesToJoin, compac
 ghost use Rattle.slate_store.specs.Content.{AreStored};
 ghost use Rattle.slate_store.specs.Objects.{PutManifest, PutTable};
 ghost use Rattle.slate_store.specs.Refusals.{CountsFaults, IsOfCompaction, IsOfPuts, KeepsContent};
-ghost use Rattle.slate_store.specs.Steps.{Adds, Joins, PlansJoin, PutsBoth, WasOpened};
+ghost use Rattle.slate_store.specs.Steps.{AddsBatches, Joins, PlansJoin, PutsBoth, WasOpened};
 
 use crate::{Manifest, Store, StoreRefusal, TableId, VersionedManifest, read_latest};
 use slate_reads::{IndexedTable, Table};
@@ -127,7 +127,7 @@ fn join_tables<S: Store>(
 
 /// Adds copies of batches. It refuses those whose numbers don't go on rising.
 fn add_copies(table: &mut IndexedTable, batches: &[Batch]) -> Result<(), StoreRefusal>
-    ensures { Adds table.old batches.now result table.new }
+    ensures { AddsBatches table.old batches.now result table.new }
 {
     for batch in batches {
         if !table.is_above_last(batch.number) {

@@ -18,15 +18,15 @@ Fits room Failed = Unit {0}
 
 -- What a read hands over of the bytes that are left: the first ones, which stand at the front of the buffer after it.
 -- It answers the end where no byte is left, and a failure takes none.
-abbrev pub Reads : ReadAnswer → List ℕ → List ℕ → List ℕ → Type 0
-Reads (Got count) buffer left left' = left ≡ take count buffer ++ left'
-Reads End buffer left left' = (left ≡ []) × (left' ≡ [])
-Reads Failed buffer left left' = left' ≡ left
+abbrev pub ReadsInto : ReadAnswer → List ℕ → List ℕ → List ℕ → Type 0
+ReadsInto (Got count) buffer left left' = left ≡ take count buffer ++ left'
+ReadsInto End buffer left left' = (left ≡ []) × (left' ≡ [])
+ReadsInto Failed buffer left left' = left' ≡ left
 
 -- how many bytes a write takes of so many
-abbrev pub Takes : ℕ → WriteAnswer → Type 0
-Takes total (Took count) = IsPart count total
-Takes total NotTaken = Unit {0}
+abbrev pub TakesPart : ℕ → WriteAnswer → Type 0
+TakesPart total (Took count) = IsPart count total
+TakesPart total NotTaken = Unit {0}
 
 -- what a write adds to the bytes that are written: the first ones of the piece, and none at a failure
 abbrev pub Writes : WriteAnswer → List ℕ → List ℕ → List ℕ → Type 0

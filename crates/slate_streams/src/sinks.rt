@@ -2,7 +2,7 @@
 ghost use Rattle.std.specs.Prelude.{◌≡◌, ℕ, ◌≤◌, List, length, Option};
 ghost use Rattle.slate_types.specs.Counts.{HasRisen};
 ghost use Rattle.slate_types.specs.Modelled.{WhereModelled};
-ghost use Rattle.slate_streams.specs.Streams.{Takes, Writes};
+ghost use Rattle.slate_streams.specs.Streams.{TakesPart, Writes};
 
 /// What a write to a sink answered.
 #[derive(Clone, Copy, Debug, PartialEq, Eq)]
@@ -26,6 +26,6 @@ pub trait Sink {
     fn write(&mut self, piece: &[u8]) -> WriteAnswer
         ensures faults { faults self.old ≤ faults self.new }
         ensures failed { result ≡ WriteAnswer.Failed → HasRisen (faults self.old) (faults self.new) }
-        ensures takes { Takes (length piece.now) result }
+        ensures takes { TakesPart (length piece.now) result }
         ensures where_modelled { WhereModelled (Writes result piece.now) (written self.old) (written self.new) };
 }

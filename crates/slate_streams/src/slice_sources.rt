@@ -47,7 +47,7 @@ impl Source for SliceSource {
     ghost use Rattle.std.specs.Prelude.{◌≡◌, ◌≤◌, length, Some};
     ghost use Rattle.slate_types.specs.Counts.{HasRisen};
     ghost use Rattle.slate_types.specs.Modelled.{WhereModelled};
-    ghost use Rattle.slate_streams.specs.Streams.{Fits, Reads};
+    ghost use Rattle.slate_streams.specs.Streams.{Fits, ReadsInto};
     ghost use Rattle.slate_streams.specs.InMemory.{AnswersRead};
 
     ghost left = { λ s. Some s.left };
@@ -58,7 +58,7 @@ impl Source for SliceSource {
         ensures faults { self.old.calls.faults ≤ self.new.calls.faults }
         ensures failed { result ≡ ReadAnswer.Failed → HasRisen self.old.calls.faults self.new.calls.faults }
         ensures fits { Fits (length buf.old) result }
-        ensures where_modelled { WhereModelled (Reads result buf.new) (Some self.old.left) (Some self.new.left) }
+        ensures where_modelled { WhereModelled (ReadsInto result buf.new) (Some self.old.left) (Some self.new.left) }
         ensures answers { AnswersRead self.old (length buf.old) result self.new.calls }
         ensures piece { self.new.piece ≡ self.old.piece }
     {

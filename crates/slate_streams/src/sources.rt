@@ -2,7 +2,7 @@
 ghost use Rattle.std.specs.Prelude.{◌≡◌, ℕ, ◌≤◌, List, length, Option};
 ghost use Rattle.slate_types.specs.Counts.{HasRisen};
 ghost use Rattle.slate_types.specs.Modelled.{WhereModelled};
-ghost use Rattle.slate_streams.specs.Streams.{Fits, Reads};
+ghost use Rattle.slate_streams.specs.Streams.{Fits, ReadsInto};
 
 /// What a read of a source answered.
 #[derive(Clone, Copy, Debug, PartialEq, Eq)]
@@ -30,5 +30,5 @@ pub trait Source {
         ensures faults { faults self.old ≤ faults self.new }
         ensures failed { result ≡ ReadAnswer.Failed → HasRisen (faults self.old) (faults self.new) }
         ensures fits { Fits (length buf.old) result }
-        ensures where_modelled { WhereModelled (Reads result buf.new) (left self.old) (left self.new) };
+        ensures where_modelled { WhereModelled (ReadsInto result buf.new) (left self.old) (left self.new) };
 }

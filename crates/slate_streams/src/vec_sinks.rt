@@ -53,7 +53,7 @@ impl Sink for VecSink {
     ghost use Rattle.std.specs.Prelude.{◌≡◌, ◌≤◌, length, Some};
     ghost use Rattle.slate_types.specs.Counts.{HasRisen};
     ghost use Rattle.slate_types.specs.Modelled.{WhereModelled};
-    ghost use Rattle.slate_streams.specs.Streams.{Takes, Writes};
+    ghost use Rattle.slate_streams.specs.Streams.{TakesPart, Writes};
     ghost use Rattle.slate_streams.specs.InMemory.{AnswersWrite};
 
     ghost written = { λ s. Some s.written };
@@ -63,7 +63,7 @@ impl Sink for VecSink {
     fn write(&mut self, piece: &[u8]) -> WriteAnswer
         ensures faults { self.old.calls.faults ≤ self.new.calls.faults }
         ensures failed { result ≡ WriteAnswer.Failed → HasRisen self.old.calls.faults self.new.calls.faults }
-        ensures takes { Takes (length piece.now) result }
+        ensures takes { TakesPart (length piece.now) result }
         ensures where_modelled { WhereModelled (Writes result piece.now) (Some self.old.written) (Some self.new.written) }
         ensures answers { AnswersWrite self.old (length piece.now) result self.new.calls }
         ensures piece { self.new.piece ≡ self.old.piece }

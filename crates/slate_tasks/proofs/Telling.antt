@@ -12,7 +12,7 @@ use Rattle.slate_dispatch.specs.Groups.{EndsBy, EndsWell, Outcome, ShutsGroup, T
 use Rattle.slate_dispatch.specs.Handlers.{HandlerSteps}
 use Rattle.slate_dispatch.specs.Origins.{Due, Nowhere, Origin, Ready, Sent}
 use Rattle.slate_dispatch.specs.Tasks.{Cancel, Finish, TaskCall, Turn, ending_of}
-use Rattle.slate_dispatch.specs.Turns.{Acts, DispatcherSteps, Dispatching, Takes, Treats, Turns, origin}
+use Rattle.slate_dispatch.specs.Turns.{Acts, DispatcherSteps, Dispatching, TakesTurn, Treats, Turns, origin}
 use Rattle.slate_tasks.specs.Running.{AreTold, WasTold}
 
 -- what a task was told last, after these calls
@@ -36,7 +36,7 @@ stays (result ∷ results) outcome = refl
 
 module _ {H M : Type 0} (steps : HandlerSteps H M) (tickers : H → List TickerDef) (ready : H → List Bool) (reports : H → Option Outcome) where
   -- taking a message, and treating it, tell nothing
-  by-taking : (moment : ℤ) (random : ℕ) (from : Origin M) (old : Dispatching H M) (message : Option M) (new : Dispatching H M) → Takes steps tickers moment random from old message new → new.finished ≡ old.finished
+  by-taking : (moment : ℤ) (random : ℕ) (from : Origin M) (old : Dispatching H M) (message : Option M) (new : Dispatching H M) → TakesTurn steps tickers moment random from old message new → new.finished ≡ old.finished
   by-taking moment random (Sent first rest) old (Some message) new takes = ap (λ d. d.finished) takes.1
   by-taking moment random (Due index) old (Some message) new takes = ap (λ d. d.finished) (takes.1).2
   by-taking moment random (Ready index) old (Some message) new takes = ap (λ d. d.finished) takes.1

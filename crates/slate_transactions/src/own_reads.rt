@@ -9,7 +9,7 @@ ghost use Rattle.slate_transactions.specs.Own.{seen_with};
 
 use crate::OwnWrites;
 use bytes::Bytes;
-use slate_reads::{IndexedTable, Table, fold, is_base, read_key, take_versions};
+use slate_reads::{IndexedTable, Table, add_versions, fold, is_base, read_key};
 use slate_types::{Batch, KeyOp, KeyValue, MergeOperator, NoMemory, Op, ReadFault, Seq};
 use std::alloc::Global;
 
@@ -64,8 +64,8 @@ fn fold_over<M: MergeOperator>(
 {
     let base = row_batch(alloc, before)?;
     let mut versions = Vec::new(alloc);
-    take_versions(&mut versions, &base, key)?;
-    take_versions(&mut versions, own, key)?;
+    add_versions(&mut versions, &base, key)?;
+    add_versions(&mut versions, own, key)?;
     fold(alloc, key, versions.as_slice(), operator)
 }
 

@@ -18,7 +18,7 @@ use crate::OwnWrites;
 use crate::bounds::entries_in;
 use bytes::Bytes;
 use slate_reads::{IndexedTable, Table};
-use slate_rows::{DbIterator, add_found, order_keys, take_keys};
+use slate_rows::{DbIterator, add_found, add_range_keys, order_keys};
 use slate_types::{ByteRange, IterationOrder, KeyValue, MergeOperator, NoMemory, ReadFault, Seq};
 use std::alloc::Global;
 
@@ -42,9 +42,9 @@ impl OwnWrites {
         ensures begun { IfOk result (λ it. it ≡ begun range.now order it.rows it.fault) }
     {
         let mut keys = Vec::new(alloc);
-        take_keys(&mut keys, stored, range)?;
-        take_keys(&mut keys, memory, range)?;
-        self.take_own_keys(&mut keys, range)?;
+        add_range_keys(&mut keys, stored, range)?;
+        add_range_keys(&mut keys, memory, range)?;
+        self.add_own_keys(&mut keys, range)?;
         order_keys(&mut keys, order)?;
         let keys = keys.as_slice();
         let (rows, fault) = self.read_keys(alloc, stored, memory, bound, keys, operator)?;
@@ -52,7 +52,7 @@ impl OwnWrites {
     }
 
     /// Adds the own keys of a range.
-    fn take_own_keys<'a>(
+    fn add_own_keys<'a>(
         &'a self,
         keys: &mut Vec<&'a Bytes>,
         range: &ByteRange,

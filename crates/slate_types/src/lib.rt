@@ -10,7 +10,7 @@ mod options;
 mod ranges;
 mod read_faults;
 mod scan_options;
-mod sequences;
+mod shared_lists;
 mod store_errors;
 
 pub use batches::{Batch, KeyOp, KeyValue, Op, WriteBatch};
@@ -24,5 +24,5 @@ pub use options::{
 pub use ranges::{ByteRange, KeyBound};
 pub use read_faults::ReadFault;
 pub use scan_options::{IterationOrder, ScanOptions};
-pub use sequences::{Name, Seq};
+pub use shared_lists::{Name, Seq};
 pub use store_errors::{StoreError, StoreFault};

@@ -19,7 +19,7 @@ use Rattle.std.proofs.lemmas.Map.Views.{All-after_first, Contains-from_any}
 use Rattle.std.proofs.lemmas.Slice.Eq.{bytes_eq-Decides, starts_is}
 use Rattle.slate_types.specs.Range.{key_cmp}
 use Rattle.slate_types.proofs.Prefixes.{nat_cmp-less, nat_cmp-same, not_below_empty}
-use Rattle.slate_status.specs.Segments.{AreRising}
+use Rattle.slate_status.specs.Segments.{PrefixesRise}
 use Rattle.slate_model.specs.Segments.{nest}
 use Rattle.slate_segments.specs.Prefixes.{HaveSame, is_one_of}
 use Rattle.slate_segments.proofs.Prefixes.{one_of-at, own-key, same-equal, same-key, same-swapped}
@@ -41,13 +41,13 @@ apart : (a b : List ℕ) → key_cmp a b ≡ Less → a ≡ b → ⊥
 apart a b less is = let same : key_cmp a b ≡ Equal = ap (λ x. key_cmp a x) (sym is) ∙ own-key a in absurd (cc)
 
 -- ---- those that rise, place by place
-rising-at : (ks : List (List ℕ)) (i j : ℕ) (d : List ℕ) → AreRising ks → i < j → j < length ks → key_cmp (get_or ks i d) (get_or ks j d) ≡ Less
+rising-at : (ks : List (List ℕ)) (i j : ℕ) (d : List ℕ) → PrefixesRise ks → i < j → j < length ks → key_cmp (get_or ks i d) (get_or ks j d) ≡ Less
 rising-at [] i j d rising under inside = absurd (omega arith)
 rising-at (k ∷ ks) i zero d rising under inside = absurd (omega arith)
 rising-at (k ∷ ks) zero (suc j) d rising under inside = All-after_first key_cmp k ks rising j d (omega arith)
 rising-at (k ∷ ks) (suc i) (suc j) d rising under inside = rising-at ks i j d (sorted_tail key_cmp k ks rising) (omega arith) (omega arith)
 
-searchable : (ks : List (List ℕ)) (p : List ℕ) → AreRising ks → IsNonDecreasingBy (λ k. ordering_index (key_cmp k p)) ks
+searchable : (ks : List (List ℕ)) (p : List ℕ) → PrefixesRise ks → IsNonDecreasingBy (λ k. ordering_index (key_cmp k p)) ks
 searchable ks p rising = searchable_from_sorted nat_list_cmp_total (λ k. k) ks p (λ k d low within. not-over (get_or ks k d) (get_or ks (k + 1) d) (rising-at ks k (k + 1) d rising (omega arith) within))
 
 -- each below the next
@@ -58,7 +58,7 @@ all-above x y (z ∷ zs) under all = (nat_list_cmp_total.trans x y z under all.0
 each-next : (x : List ℕ) (ks : List (List ℕ)) → AllAdjacentBelow (λ a b. key_cmp a b ≡ Less) (x ∷ ks) (length (x ∷ ks)) → AllAdjacentBelow (λ a b. key_cmp a b ≡ Less) ks (length ks)
 each-next x ks each k d within = subst (λ n. key_cmp (get_or ks k d) (get_or (x ∷ ks) n d) ≡ Less) {x = suc k + 1} {y = suc (k + 1)} (omega arith) (each (suc k) d (omega arith))
 
-pub rising-adjacent : (ks : List (List ℕ)) → AllAdjacentBelow (λ a b. key_cmp a b ≡ Less) ks (length ks) → AreRising ks
+pub rising-adjacent : (ks : List (List ℕ)) → AllAdjacentBelow (λ a b. key_cmp a b ≡ Less) ks (length ks) → PrefixesRise ks
 unfolding IsStrictlySortedBy
 rising-adjacent [] each = tt
 rising-adjacent (x ∷ []) each = (tt, tt)
@@ -78,7 +78,7 @@ all-from : (p : List ℕ) (ks : List (List ℕ)) → AllWithin (λ k. key_cmp k 
 all-from p [] over = tt
 all-from p (k ∷ ks) over = (turned-back k p (over 0 k (omega arith) (omega arith)), all-from p ks (λ j d low within. over (suc j) d (omega arith) (omega arith)))
 
-pub rising-insert : (ks : List (List ℕ)) (i : ℕ) (p : List ℕ) → AreRising ks → AllWithin (λ k. key_cmp k p ≡ Less) ks 0 i → AllWithin (λ k. key_cmp k p ≡ Greater) ks i (length ks) → AreRising (insert ks i p)
+pub rising-insert : (ks : List (List ℕ)) (i : ℕ) (p : List ℕ) → PrefixesRise ks → AllWithin (λ k. key_cmp k p ≡ Less) ks 0 i → AllWithin (λ k. key_cmp k p ≡ Greater) ks i (length ks) → PrefixesRise (insert ks i p)
 unfolding IsStrictlySortedBy
 rising-insert [] zero p rising under over = (tt, tt)
 rising-insert [] (suc i) p rising under over = (tt, tt)
@@ -96,7 +96,7 @@ same-insert ks i p =
     (same-equal (take i ks ++ (drop i ks ++ p ∷ [])) (ks ++ p ∷ []) (sym (append_assoc (take i ks) (drop i ks) (p ∷ [])) ∙ ap (λ xs. xs ++ p ∷ []) (take-append-drop i ks)))
 
 -- ---- where a search finds a prefix
-pub place-is : (ks : List (List ℕ)) (p : List ℕ) (r : Result ℕ ℕ) → IsSearchInRange r (length ks) → IsBinarySearchResult (λ k. key_cmp k p) ks r → AreRising ks → IsPlace ks p r
+pub place-is : (ks : List (List ℕ)) (p : List ℕ) (r : Result ℕ ℕ) → IsSearchInRange r (length ks) → IsBinarySearchResult (λ k. key_cmp k p) ks r → PrefixesRise ks → IsPlace ks p r
 place-is ks p (Ok i) inside found rising = (inside, λ d. exact_bytes (get_or ks i d) p (found d))
 place-is ks p (Err i) inside found rising = let parts = found (searchable ks p rising) in (inside, parts.0, parts.1)
 
@@ -121,7 +121,7 @@ none-same ks p i place = false_from_ne_true (is_one_of ks p) (λ h. let w : Cont
 abbrev pub IsCut : (ks : List (List ℕ)) → List ℕ → ℕ → Type 0
 IsCut ks p n = AllWithin (λ k. is_lt (key_cmp p k) ≡ false) ks 0 n × AllWithin (λ k. key_cmp p k ≡ Less) ks n (length ks)
 
-pub cut-ok : (ks : List (List ℕ)) (p : List ℕ) (i : ℕ) → AreRising ks → IsPlace ks p (Ok i) → IsCut ks p (i + 1)
+pub cut-ok : (ks : List (List ℕ)) (p : List ℕ) (i : ℕ) → PrefixesRise ks → IsPlace ks p (Ok i) → IsCut ks p (i + 1)
 cut-ok ks p i rising place = (
   λ j d low within. elim (cases_lt j i) [
     | inl before ↦ not-over (get_or ks j d) p (subst (λ x. key_cmp (get_or ks j d) x ≡ Less) (place.1 d) (rising-at ks j i d rising before place.0))
@@ -136,7 +136,7 @@ cut-err ks p i place = (
   λ j d low within. turned-back (get_or ks j d) p (place.2 j d low within),
 )
 
-pub next-some : (ks : List (List ℕ)) (p k : List ℕ) (n : ℕ) → AreRising ks → IsCut ks p n → n < length ks → k ≡ get_or ks n k → IsNext ks p (Some k)
+pub next-some : (ks : List (List ℕ)) (p k : List ℕ) (n : ℕ) → PrefixesRise ks → IsCut ks p n → n < length ks → k ≡ get_or ks n k → IsNext ks p (Some k)
 next-some ks p k n rising cut inside item = (
   one_of-at ks n k k inside item refl,
   subst (λ x. key_cmp p x ≡ Less) (sym item) (cut.1 n k (omega arith) inside),
@@ -160,7 +160,7 @@ pub next-none : (ks : List (List ℕ)) (p : List ℕ) (n : ℕ) → IsCut ks p n
 next-none ks p n cut past = λ q at. let w : Contains ks q = Contains-from_any same-key q ks at in
     subst (λ x. is_lt (key_cmp p x) ≡ false) w.2 (cut.0 w.0 q (omega arith) (let inside = w.1 in omega arith))
 
-pub cut-of : (ks : List (List ℕ)) (p : List ℕ) (r : Result ℕ ℕ) (n : ℕ) → AreRising ks → IsPlace ks p r → ((i : ℕ) × (r ≡ Ok i) × (n ≡ i + 1)) ⊎ ((i : ℕ) × (r ≡ Err i) × (n ≡ i)) → IsCut ks p n
+pub cut-of : (ks : List (List ℕ)) (p : List ℕ) (r : Result ℕ ℕ) (n : ℕ) → PrefixesRise ks → IsPlace ks p r → ((i : ℕ) × (r ≡ Ok i) × (n ≡ i + 1)) ⊎ ((i : ℕ) × (r ≡ Err i) × (n ≡ i)) → IsCut ks p n
 cut-of ks p r n rising place (inl w) = subst (IsCut ks p) (sym w.2) (cut-ok ks p w.0 rising (subst (IsPlace ks p) w.1 place))
 cut-of ks p r n rising place (inr w) = subst (IsCut ks p) (sym w.2) (cut-err ks p w.0 (subst (IsPlace ks p) w.1 place))
 

@@ -11,7 +11,7 @@ use Rattle.std.proofs.lemmas.Bool.{false_from_ne_true}
 use Rattle.std.proofs.lemmas.List.{take_more}
 use Rattle.std.proofs.lemmas.Map.Lookups.{exact_bytes}
 use Rattle.slate_types.specs.Range.{key_cmp}
-use Rattle.slate_status.specs.Segments.{AreRising, set_of}
+use Rattle.slate_status.specs.Segments.{PrefixesRise, set_of}
 use Rattle.slate_model.specs.Segments.{conflict, nest}
 use Rattle.slate_segments.specs.Prefixes.{HaveSame, is_one_of}
 use Rattle.slate_segments.proofs.Prefixes.{in-either, in-itself, in-left, in-one, in-right, less-of, members-keys, or-cases, or-right, own-key, rising-keys, same-key}
@@ -121,7 +121,7 @@ conflict-more p ks i k r inside item h =
 
 -- ---- the first that nests, in the order of all
 -- what a search in a rising list finds
-find-rising : (p : List ℕ) (ks : List (List ℕ)) (r : Option (List ℕ)) → AreRising ks → IsConflict ks p r → find (nest p) ks ≡ r
+find-rising : (p : List ℕ) (ks : List (List ℕ)) (r : Option (List ℕ)) → PrefixesRise ks → IsConflict ks p r → find (nest p) ks ≡ r
 unfolding IsStrictlySortedBy
 find-rising p [] None rising h = refl
 find-rising p [] (Some f) rising h = absurd (let nay = h.0 in cc)

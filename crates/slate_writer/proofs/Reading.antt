@@ -20,7 +20,7 @@ use Rattle.slate_errors.specs.declared.errors.SlateError.TheVariants.{ObjectStor
 use Rattle.slate_model.specs.Handle.{CloseResult, Handle}
 use Rattle.slate_model.specs.Known.{Known}
 use Rattle.slate_model.specs.Object.{Handle as AHandle}
-use Rattle.slate_model.specs.Read.{AnswersRead, Reads}
+use Rattle.slate_model.specs.Read.{AnswersRead, ReadsUnlessClosed}
 use Rattle.slate_model.specs.Stores.{kept_rows}
 use Rattle.slate_model.specs.Tables.{AreJoined}
 
@@ -51,7 +51,7 @@ not-stored {A = A} answer fault of is other =
 -- a read of a handle that is open, by these batches
 module _ {A : Type 0} (result : CloseResult) (tables : List TableId) (has_rows : List Batch → Type 0) (before after : Known (List Batch)) (rows : List Batch) (live : result ≡ None)
     (same : after.faults ≡ before.faults) (kept : after.objects ≡ before.objects) (alone : tables ≡ [] → after ≡ before) (has : has_rows rows) where
-  pub given : (is_plain : List Batch → Result A ReadFault → Type 0) (a : A) → is_plain rows (Ok a) → Reads result tables has_rows is_plain before (Ok a) after
+  pub given : (is_plain : List Batch → Result A ReadFault → Type 0) (a : A) → is_plain rows (Ok a) → ReadsUnlessClosed result tables has_rows is_plain before (Ok a) after
   given is_plain a plain = record {
     closed = subst (λ (r : CloseResult). IfSome r (λ r. (◌≡◌ {A = Result A SlateError} (Ok a) (Err (closed_error r))) × (after ≡ before))) (sym live) tt;
     read = λ _. record {
@@ -69,7 +69,7 @@ module _ {A : Type 0} (result : CloseResult) (tables : List TableId) (has_rows :
   answers is_plain MergeOperatorMissing plain = (rows, has, plain (λ is. cc))
   answers is_plain NoMemory plain = tt
 
-  pub refused : (is_plain : List Batch → Result A ReadFault → Type 0) (answer : Result A SlateError) (fault : ReadFault) → answer ≡ Err (error_of_read fault) → ((fault ≡ NoMemory → ⊥) → is_plain rows (Err fault)) → Reads result tables has_rows is_plain before answer after
+  pub refused : (is_plain : List Batch → Result A ReadFault → Type 0) (answer : Result A SlateError) (fault : ReadFault) → answer ≡ Err (error_of_read fault) → ((fault ≡ NoMemory → ⊥) → is_plain rows (Err fault)) → ReadsUnlessClosed result tables has_rows is_plain before answer after
   refused is_plain answer fault is plain = record {
     closed = subst (λ (r : CloseResult). IfSome r (λ r. (answer ≡ Err (closed_error r)) × (after ≡ before))) (sym live) tt;
     read = λ _. record {

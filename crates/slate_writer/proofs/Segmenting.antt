@@ -5,7 +5,7 @@ use Rattle.std.proofs.lemmas.List.{append-nil}
 use Rattle.slate_types.specs.declared.batches.KeyOp.{KeyOp}
 use Rattle.slate_errors.specs.declared.errors.SlateError.{SlateError}
 use Rattle.slate_errors.specs.declared.errors.SlateError.TheVariants.{InvalidSegmentPrefix}
-use Rattle.slate_status.specs.Segments.{AreRising}
+use Rattle.slate_status.specs.Segments.{PrefixesRise}
 use Rattle.slate_model.specs.Segments.{Extractor, empty_refusal, key_refusal, nesting_refusal, ops_refusal, prefixes_of, segments_with}
 use Rattle.slate_segments.specs.Prefixes.{HaveSame, is_one_of}
 use Rattle.slate_segments.proofs.Prefixes.{rising-same, same-equal, union-is}
@@ -61,7 +61,7 @@ same-nil : (a : List (List ℕ)) → HaveSame (a ++ []) a
 same-nil a q = ap (λ ps. is_one_of ps q) (append-nil a)
 
 -- what is rising and has the segments and those that were taken is what they become
-pub segments-after : (x : Option Extractor) (segments taken all : List (List ℕ)) (ops : List KeyOp) → AreRising segments → AreRising all → HaveSame taken (prefixes_by x ops) → HaveSame all (segments ++ taken) → all ≡ segments_with x segments ops
+pub segments-after : (x : Option Extractor) (segments taken all : List (List ℕ)) (ops : List KeyOp) → PrefixesRise segments → PrefixesRise all → HaveSame taken (prefixes_by x ops) → HaveSame all (segments ++ taken) → all ≡ segments_with x segments ops
 segments-after None segments taken all ops rising rises took same =
     rising-same all segments rises rising (same-then all (segments ++ taken) segments same (same-then (segments ++ taken) (segments ++ []) segments (same-after segments taken [] took) (same-nil segments)))
 segments-after (Some x) segments taken all ops rising rises took same =

@@ -6,7 +6,7 @@ ghost use Rattle.slate_model.specs.Handle.{accepted};
 ghost use Rattle.slate_writer.specs.Board.{code_of, first_words, lead_at, words_of};
 
 use crate::WriterState;
-use crate::segments::rise;
+use crate::key_prefixes::rise;
 use slate_board::{Board, BoardSeat, BoardView};
 use slate_errors::{CloseFault, CloseReason, SlateError};
 use slate_store::VersionedManifest;

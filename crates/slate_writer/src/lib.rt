@@ -4,14 +4,14 @@
 mod board;
 mod closes;
 mod flushes;
+mod key_prefixes;
 mod memories;
 mod merges;
 mod opens;
 mod reads;
-mod recencies;
+mod recency_scans;
 mod refreshes;
 mod scans;
-mod segments;
 mod sizes;
 mod states;
 mod tables;

@@ -20,8 +20,8 @@ ghost use Rattle.slate_writer.specs.Opening.{CallsOpening, FindsLog, FindsNext, 
 
 use crate::WriterState;
 use crate::board::{new_board, raise};
+use crate::key_prefixes::rise;
 use crate::memories::Memory;
-use crate::segments::rise;
 use crate::tasks::start_tasks;
 use crate::times::{track_all, tracker_of};
 use slate_errors::SlateError;

@@ -9,7 +9,7 @@ ghost use Rattle.slate_types.specs.declared.store_errors.StoreFault.TheVariants.
 ghost use Rattle.slate_model.specs.Handle.{accepted};
 ghost use Rattle.slate_model.specs.Known.{FaultsRise, known};
 ghost use Rattle.slate_model.specs.Object.{Handle};
-ghost use Rattle.slate_model.specs.Read.{Reads, ReadsByAny};
+ghost use Rattle.slate_model.specs.Read.{ReadsUnlessClosed, ReadsByAny};
 ghost use Rattle.slate_model.specs.Snapshot.{snapshot_number};
 ghost use Rattle.slate_model.specs.Stores.{kept_rows};
 ghost use Rattle.slate_model.specs.Tables.{AreJoined, AreStored};
@@ -59,7 +59,7 @@ impl WriterState {
         operator: Option<&M>,
     ) -> Result<Option<KeyValue>, SlateError>
         ensures read { (merge : Option Merge) → IsOperator M.may_answer (option_copied operator.entry) merge →
-            Reads self.now.result self.now.view.manifest.tables (kept_rows (S.objects store.old) (Handle self.now))
+            ReadsUnlessClosed self.now.result self.now.view.manifest.tables (kept_rows (S.objects store.old) (Handle self.now))
             (λ rows answer. answer ≡ read_at merge rows (read_bound snapshot self.now.durable (accepted self.now) options.now.durability_filter options.now.dirty) key.now)
             (known S.objects S.faults store.old) result (known S.objects S.faults store.new) }
         ensures by_any { ReadsByAny self.now.result self.now.view.manifest.tables (known S.objects S.faults store.old) result (known S.objects S.faults store.new) }

@@ -5,7 +5,7 @@ ghost use Rattle.slate_types.specs.Operator.{Merge};
 ghost use Rattle.slate_reads.specs.Read.{IsOperator};
 ghost use Rattle.slate_model.specs.Known.{known};
 ghost use Rattle.slate_model.specs.Object.{Handle};
-ghost use Rattle.slate_model.specs.Read.{Gives, Reads, ReadsByAny};
+ghost use Rattle.slate_model.specs.Read.{Gives, ReadsUnlessClosed, ReadsByAny};
 ghost use Rattle.slate_model.specs.Stores.{kept_rows};
 ghost use Rattle.slate_writer.specs.Scanned.{BeginsFrontOf, BeginsScanOf};
 
@@ -43,7 +43,7 @@ impl WriterState {
         operator: Option<&M>,
     ) -> Result<DbIterator, SlateError>
         ensures scan { (merge : Option Merge) → IsOperator M.may_answer (option_copied operator.entry) merge →
-            Reads self.now.result self.now.view.manifest.tables (kept_rows (S.objects store.old) (Handle self.now))
+            ReadsUnlessClosed self.now.result self.now.view.manifest.tables (kept_rows (S.objects store.old) (Handle self.now))
             (Gives (BeginsScanOf self.now merge snapshot options.now range.now))
             (known S.objects S.faults store.old) result (known S.objects S.faults store.new) }
         ensures by_any { ReadsByAny self.now.result self.now.view.manifest.tables (known S.objects S.faults store.old) result (known S.objects S.faults store.new) }
@@ -88,7 +88,7 @@ impl WriterState {
         operator: Option<&M>,
     ) -> Result<DbIterator, SlateError>
         ensures scan { (merge : Option Merge) → IsOperator M.may_answer (option_copied operator.entry) merge →
-            Reads self.now.result self.now.view.manifest.tables (kept_rows (S.objects store.old) (Handle self.now))
+            ReadsUnlessClosed self.now.result self.now.view.manifest.tables (kept_rows (S.objects store.old) (Handle self.now))
             (Gives (BeginsFrontOf limit self.now merge snapshot options.now range.now))
             (known S.objects S.faults store.old) result (known S.objects S.faults store.new) }
         ensures by_any { ReadsByAny self.now.result self.now.view.manifest.tables (known S.objects S.faults store.old) result (known S.objects S.faults store.new) }

@@ -2,12 +2,12 @@
 ghost use Rattle.std.specs.Prelude.{◌≡◌, ◌-◌, ◌≤◌, IfOk, length};
 ghost use Rattle.slate_types.specs.Line.{IsLine, batches_above};
 ghost use Rattle.slate_reads.specs.Index.{AreRising};
-ghost use Rattle.slate_status.specs.Segments.{AreRising as AreRisingPrefixes};
+ghost use Rattle.slate_status.specs.Segments.{PrefixesRise as AreRisingPrefixes};
 ghost use Rattle.slate_model.specs.Handle.{accepted, has_untabled, kept_handle, to_log, untabled_segments};
 ghost use Rattle.slate_model.specs.Status.{handle_status};
 
+use crate::key_prefixes::{clear_unless, rise};
 use crate::memories::Memory;
-use crate::segments::{clear_unless, rise};
 use bytes::Bytes;
 use slate_board::{Board, BoardSeat};
 use slate_errors::CloseFault;
@@ -85,11 +85,11 @@ impl Model for WriterState {
 
     ghost Value = { Handle };
 
-    ghost use Rattle.slate_writer.specs.Kept.{handle_of, IsKept};
+    ghost use Rattle.slate_writer.specs.Kept.{handle_of, IsKeptHandle};
 
     ghost view = { handle_of };
 
-    ghost invariant = { IsKept };
+    ghost invariant = { IsKeptHandle };
 }
 
 impl WriterState {

@@ -6,7 +6,7 @@ ghost use Rattle.slate_reads.specs.Read.{IsOperator, read_at};
 ghost use Rattle.slate_rows.specs.Scan.{BeginsScan};
 ghost use Rattle.slate_model.specs.Known.{known};
 ghost use Rattle.slate_model.specs.Object.{Handle};
-ghost use Rattle.slate_model.specs.Read.{Gives, Reads, ReadsByAny};
+ghost use Rattle.slate_model.specs.Read.{Gives, ReadsUnlessClosed, ReadsByAny};
 ghost use Rattle.slate_model.specs.Stores.{kept_rows};
 ghost use Rattle.slate_model.specs.Transaction.{having_got, having_scanned, seen_by, start_bound};
 
@@ -39,7 +39,7 @@ impl Transaction {
         operator: Option<&M>,
     ) -> Result<Option<KeyValue>, SlateError>
         ensures read { (merge : Option Merge) → IsOperator M.may_answer (option_copied operator.entry) merge →
-            Reads writer.now.result writer.now.view.manifest.tables (kept_rows (S.objects store.old) (Handle writer.now))
+            ReadsUnlessClosed writer.now.result writer.now.view.manifest.tables (kept_rows (S.objects store.old) (Handle writer.now))
             (λ rows answer. answer ≡ read_at merge (seen_by self.old (start_bound self.old writer.now options.now.durability_filter options.now.dirty) rows) None key.now)
             (known S.objects S.faults store.old) result (known S.objects S.faults store.new) }
         ensures by_any { ReadsByAny writer.now.result writer.now.view.manifest.tables (known S.objects S.faults store.old) result (known S.objects S.faults store.new) }
@@ -104,7 +104,7 @@ impl Transaction {
         operator: Option<&M>,
     ) -> Result<DbIterator, SlateError>
         ensures scan { (merge : Option Merge) → IsOperator M.may_answer (option_copied operator.entry) merge →
-            Reads writer.now.result writer.now.view.manifest.tables (kept_rows (S.objects store.old) (Handle writer.now))
+            ReadsUnlessClosed writer.now.result writer.now.view.manifest.tables (kept_rows (S.objects store.old) (Handle writer.now))
             (Gives (λ rows it. BeginsScan merge (seen_by self.old (start_bound self.old writer.now options.now.durability_filter options.now.dirty) rows) None range.now options.now.order it))
             (known S.objects S.faults store.old) result (known S.objects S.faults store.new) }
         ensures by_any { ReadsByAny writer.now.result writer.now.view.manifest.tables (known S.objects S.faults store.old) result (known S.objects S.faults store.new) }

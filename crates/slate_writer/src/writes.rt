@@ -3,7 +3,7 @@ ghost use Rattle.std.specs.Prelude.{◌≡◌, ◌∷◌, ◌++◌, [], All, IsT
 ghost use Rattle.std.specs.Option.{option_copied};
 ghost use Rattle.slate_types.specs.declared.batches.Batch.{Batch as ABatch};
 ghost use Rattle.slate_types.specs.declared.batches.KeyOp.{KeyOp as AKeyOp};
-ghost use Rattle.slate_status.specs.Segments.{AreRising};
+ghost use Rattle.slate_status.specs.Segments.{PrefixesRise};
 ghost use Rattle.slate_model.specs.Handle.{accepted, known_segments, untabled_segments};
 ghost use Rattle.slate_model.specs.Segments.{Extractor, IsExtractor, segment_refusal, segments_with};
 ghost use Rattle.slate_errors.specs.Errors.{closed_error};
@@ -17,8 +17,8 @@ ghost use Rattle.slate_writer.specs.Segments.{prefixes_by};
 
 use crate::WriterState;
 use crate::board::take_tick;
+use crate::key_prefixes::take_prefixes;
 use crate::merges::merge_refusal;
-use crate::segments::take_prefixes;
 use crate::sizes::ops_size;
 use bytes::Bytes;
 use slate_errors::SlateError;
@@ -150,7 +150,7 @@ impl WriterState {
         ensures by_any { IfOk result (λ a. (write_refusal None self.now batch.now.ops moment second ≡ None) × (accepted_moment self.now.tick moment second ≡ Some a.0.create_ts)) }
         ensures refused_by_any { IfErr result (λ e. (e ≡ SlateError.NoMemory) ⊎ (IsOfSegments e ⊎ (write_refusal None self.now batch.now.ops moment second ≡ Some e))) }
         ensures later { IfOk result (λ a. self.now.tick ≤ℤ a.0.create_ts) }
-        ensures rising { IfOk result (λ a. AreRising (unwrap_or a.1 self.now.segments)) }
+        ensures rising { IfOk result (λ a. PrefixesRise (unwrap_or a.1 self.now.segments)) }
         ensures refused { (x : Option Extractor) → IsExtractor E.may_name E.may_extract (option_copied extractor.entry) x → IfErr result (λ e.
             (e ≡ SlateError.NoMemory) ⊎ (write_refusal x self.now batch.now.ops moment second ≡ Some e)) }
     {
@@ -203,7 +203,7 @@ impl WriterState {
     ) -> Result<Option<Seq<Bytes>>, NoMemory>
         ensures with { (x : Option Extractor) (ops : List AKeyOp) → HaveSame taken.items (prefixes_by x ops) → IfOk result (λ next.
             unwrap_or next self.now.segments ≡ segments_with x (untabled_segments self.now) ops) }
-        ensures rising { IfOk result (λ next. AreRising (unwrap_or next self.now.segments)) }
+        ensures rising { IfOk result (λ next. PrefixesRise (unwrap_or next self.now.segments)) }
     {
         if self.has_untabled() && are_among(taken.as_slice(), self.segments.as_slice()) {
             return Ok(None);

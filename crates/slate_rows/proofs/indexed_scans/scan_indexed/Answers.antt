@@ -10,8 +10,8 @@ pub of_rows-requires-clause-in_range : goal.of_rows-requires-clause-in_range
 of_rows-requires-clause-in_range g c =
     let stored = flat_map (λ table. table) c.args.stored.now in
     let memory = flat_map (λ table. table) c.args.memory.now in
-    let begun = c.in_ok-take_keys.ensures [] (AreWalked-begun c.args.range.now (key_list c.new-keys.result.items) (ap key_list c.new-keys.ensures.items)) in
-    let walked = AreWalked-ordered (stored ++ memory) c.args.range.now (key_list c.take_keys-2.new.keys.items) (key_list c.order_keys.new.keys.items) c.in_ok-order_keys.ensures.same (c.in_ok-take_keys-2.ensures stored begun) in
+    let begun = c.in_ok-add_range_keys.ensures [] (AreWalked-begun c.args.range.now (key_list c.new-keys.result.items) (ap key_list c.new-keys.ensures.items)) in
+    let walked = AreWalked-ordered (stored ++ memory) c.args.range.now (key_list c.add_range_keys-2.new.keys.items) (key_list c.order_keys.new.keys.items) c.in_ok-order_keys.ensures.same (c.in_ok-add_range_keys-2.ensures stored begun) in
     rw (c.of.ensures, c.in_ok-clone.ensures.cases) (c.in_ok-rows.ensures.within c.args.range.now (rw c.as_slice.ensures.value walked.within))
 
 pub of_rows-requires-clause-in_order : goal.of_rows-requires-clause-in_order
@@ -22,8 +22,8 @@ pub returns-clause-plain : goal.returns-clause-plain
 returns-clause-plain g c merge lawful =
     let stored = flat_map (λ table. table) c.args.stored.now in
     let memory = flat_map (λ table. table) c.args.memory.now in
-    let begun = c.in_ok-take_keys.ensures [] (AreWalked-begun c.args.range.now (key_list c.new-keys.result.items) (ap key_list c.new-keys.ensures.items)) in
-    let walked = AreWalked-ordered (stored ++ memory) c.args.range.now (key_list c.take_keys-2.new.keys.items) (key_list c.order_keys.new.keys.items) c.in_ok-order_keys.ensures.same (c.in_ok-take_keys-2.ensures stored begun) in
+    let begun = c.in_ok-add_range_keys.ensures [] (AreWalked-begun c.args.range.now (key_list c.new-keys.result.items) (ap key_list c.new-keys.ensures.items)) in
+    let walked = AreWalked-ordered (stored ++ memory) c.args.range.now (key_list c.add_range_keys-2.new.keys.items) (key_list c.order_keys.new.keys.items) c.in_ok-order_keys.ensures.same (c.in_ok-add_range_keys-2.ensures stored begun) in
     let plain = IsScan-from_walk merge (stored ++ memory) c.args.bound c.args.range.now c.args.order (key_list c.order_keys.new.keys.items) c.in_ok-rows.rows.items c.in_ok-rows.fault walked c.in_ok-order_keys.ensures.in_order
     (rw c.as_slice.ensures.value at c.in_ok-rows.ensures.plain merge lawful) in
     IfOk-weaker c.of_rows.result _ _ (IsScan-begun merge _ _ _ _ _ _ _ _ c.of.ensures plain) c.of_rows.ensures

@@ -1,5 +1,5 @@
 use Rattle.std.proofs.Common.{rules, arith, refl, Err, ap, subst, sym, ◌∙◌, ◌++◌}
-use Rattle.slate_store.specs.Steps.{Adds}
+use Rattle.slate_store.specs.Steps.{AddsBatches}
 use Rattle.slate_store.proofs.Joining.{batches-more, both-known, stored-more, unadded, unread}
 use Rattle.slate_store.proofs.compactions.join_tables.Goals as goal
 
@@ -14,7 +14,7 @@ pub returns-in_err-add_copies-clause-joins : goal.returns-in_err-add_copies-clau
 returns-in_err-add_copies-clause-joins g c =
     let i = c.loop-id.invariant in
     let all = both-known _ _ i.kept i.joined c.in_ok-table.ensures.found
-    (λ o so_far found. unadded c.args.ids.now c.loop-id.id-index _ _ c.loop-id.joined c.in_ok-table.table c.add_copies.new.table c.in_err-add_copies.field-0.0 o (omega arith) refl so_far found (subst (λ xs. Adds c.loop-id.joined xs (Err c.in_err-add_copies.field-0.0) c.add_copies.new.table) c.batches.ensures.value c.in_err-add_copies.ensures)) in
+    (λ o so_far found. unadded c.args.ids.now c.loop-id.id-index _ _ c.loop-id.joined c.in_ok-table.table c.add_copies.new.table c.in_err-add_copies.field-0.0 o (omega arith) refl so_far found (subst (λ xs. AddsBatches c.loop-id.joined xs (Err c.in_err-add_copies.field-0.0) c.add_copies.new.table) c.batches.ensures.value c.in_err-add_copies.ensures)) in
     search (rules, all)
 
 pub loop-id-preserved : goal.loop-id-preserved

@@ -10,7 +10,7 @@ use Rattle.slate_model.specs.Follower.{Follower}
 use Rattle.slate_model.specs.Lease.{leased}
 use Rattle.slate_model.specs.declared.answers.PollAnswer.{PollAnswer}
 use Rattle.slate_follow.specs.Keeping.{MayLack, PutsManifest}
-use Rattle.slate_follow.specs.declared.keeps.Kept.{Kept}
+use Rattle.slate_follow.specs.declared.leased_polls.Kept.{Kept}
 use Rattle.slate_follow.proofs.Leased.{mode-leased}
 use Rattle.slate_follow.proofs.Answering.{rebuilding-polling, turn-polling}
 use Rattle.slate_follow.proofs.Counted.{replaced-calls}

@@ -4,7 +4,7 @@ use Rattle.slate_errors.specs.declared.errors.SlateError.TheVariants.{EmptySegme
 use Rattle.slate_model.specs.Follower.{number}
 use Rattle.slate_follow.specs.Lagging.{IsLastRead, IsLastTaken}
 use Rattle.slate_follow.specs.Rebuilding.{BuildLacks, Builds, GoingLacks}
-use Rattle.slate_follow.specs.Takings.{Gives}
+use Rattle.slate_follow.specs.Takings.{GivesTaking}
 use Rattle.slate_follow.proofs.Rebuilt.{if_some, some_at}
 use Rattle.slate_follow.proofs.Refusing.{err-same}
 use Rattle.slate_follow.proofs.states.FollowerState.taking_under.Goals as goal
@@ -18,7 +18,7 @@ returns-clause-takes g c =
     let stays : c.goes_on.result ≡ false = search rules in
     let built = c.in_ok-anew.ensures.builds old c.requires.open_ (c.goes_on.ensures.running c.requires.open_) in
     if_some t (λ o at.
-    let builds = some_at (λ o. Gives (Builds o old.mode old.skips old.lag view l.last) view old c.in_ok-anew.anew) (g.S.Store.objects c.last_read.new.store) o (l.ensures.kept ∙ at) built in
+    let builds = some_at (λ o. GivesTaking (Builds o old.mode old.skips old.lag view l.last) view old c.in_ok-anew.anew) (g.S.Store.objects c.last_read.new.store) o (l.ensures.kept ∙ at) built in
     inr (sym c.goes_on.ensures.goes ∙ stays, l.last, some_at (λ o. IsLastRead old view o l.last) t o at l.ensures.read, builds))
 
 pub returns-in_err-taken-clause-lacks : goal.returns-in_err-taken-clause-lacks

@@ -12,12 +12,12 @@ use Rattle.slate_model.specs.Lease.{differs, is_due, replaces, to_keep}
 use Rattle.slate_model.specs.Managed.{unrefused}
 use Rattle.slate_model.specs.Stores.{Stands}
 use Rattle.slate_store.specs.Refusals.{planned}
-use Rattle.slate_follow.specs.declared.keeps.Kept.{Kept}
+use Rattle.slate_follow.specs.declared.leased_polls.Kept.{Kept}
 use Rattle.slate_follow.specs.Keeping.{MayLack, PutsBy, ReplaceLacks, Replaces, TakesLatest, put_tried, answered}
 use Rattle.slate_follow.proofs.Answering.{polling-poll, turn-polling}
 use Rattle.slate_follow.proofs.Counted.{due-costs, news-then, replaced-costs, replaced-first, rest-costs}
 use Rattle.slate_follow.specs.Rebuilding.{TakesUnder, Truncates, answer_of}
-use Rattle.slate_follow.specs.Takings.{Gives, installed}
+use Rattle.slate_follow.specs.Takings.{GivesTaking, installed}
 use Rattle.slate_follow.proofs.Informed.{tabled-same}
 use Rattle.slate_follow.proofs.Having.{has-open, has-segments, has-truncated, replaced-open, replaced-segments, replaced-truncates}
 use Rattle.slate_follow.proofs.Keeping.{puts-by, renewal, replacement, replaces-by, to-renewal, to-replace, to-stay}
@@ -221,7 +221,7 @@ returns-then-not-is_due-clause-keeps g c =
     let answer = c.install-answer.result in
     let becomes : new ≡ record (installed old.view c.in_ok-taken.taken old) { lease = old.lease } = c.install-answer.ensures.becomes in
     let answers : answer ≡ answer_of c.in_ok-taken.taken.replayed (number new) = c.install-answer.ensures.answer in
-    let all = stays-kept t v.latest v.ensures.found l m old new managed c.requires.open_ tasks floor same c.in_ok-taken.taken answer answers t2 kept (subst (λ s. IfSome s (λ o. Gives (TakesUnder o v.latest old) v.latest old c.in_ok-taken.taken)) (sym e.kept) e.takes)
+    let all = stays-kept t v.latest v.ensures.found l m old new managed c.requires.open_ tasks floor same c.in_ok-taken.taken answer answers t2 kept (subst (λ s. IfSome s (λ o. GivesTaking (TakesUnder o v.latest old) v.latest old c.in_ok-taken.taken)) (sym e.kept) e.takes)
     (becomes ∙ ap (λ x. record (installed old.view c.in_ok-taken.taken old) { lease = x }) (sym (ap (λ (f : Follower). f.lease) becomes))) unreplaced early (ap (λ (f : Follower). f.lease) becomes ∙ c.requires.leased) in
     search (rules, all)
 
@@ -235,7 +235,7 @@ returns-then-not-is_due-clause-truncates g c =
     let answer = c.install-answer.result in
     let becomes : new ≡ record (installed old.view c.in_ok-taken.taken old) { lease = old.lease } = c.install-answer.ensures.becomes in
     let answers : answer ≡ answer_of c.in_ok-taken.taken.replayed (number new) = c.install-answer.ensures.answer in
-    has-truncated old.view c.in_ok-taken.taken old.lease old new answer becomes answers v.latest t (subst (λ s. IfSome s (λ o. Gives (TakesUnder o v.latest old) v.latest old c.in_ok-taken.taken)) v.ensures.kept e.takes)
+    has-truncated old.view c.in_ok-taken.taken old.lease old new answer becomes answers v.latest t (subst (λ s. IfSome s (λ o. GivesTaking (TakesUnder o v.latest old) v.latest old c.in_ok-taken.taken)) v.ensures.kept e.takes)
 
 pub returns-then-not-is_due-clause-segments : goal.returns-then-not-is_due-clause-segments
 returns-then-not-is_due-clause-segments g c x lawful has =
@@ -355,7 +355,7 @@ returns-then-is_none-clause-keeps g c =
     let undone = to_z-of_z {w = w64} {z = m} (search rules) in
     let puts = subst (λ m. WhereModelled (λ o o'. PutsBy MayLack (replacement old.view v.latest l m) old.lease o (answered r.result) r.new.self.lease o') t2 (g.S.Store.objects r.new.store)) undone r.ensures.puts in
     let became = subst (λ m. IfOk (answered r.result) (λ answer. Replaces (replacement old.view v.latest l m) c.in_ok-taken.taken old r.new.self answer)) undone r.ensures.becomes in
-    let all = missing-all t v.latest v.ensures.found l m old r.new.self managed c.requires.open_ tasks floor same c.in_ok-taken.taken t2 kept (subst (λ s. IfSome s (λ o. Gives (TakesUnder o v.latest old) v.latest old c.in_ok-taken.taken)) (sym e.kept) e.takes)
+    let all = missing-all t v.latest v.ensures.found l m old r.new.self managed c.requires.open_ tasks floor same c.in_ok-taken.taken t2 kept (subst (λ s. IfSome s (λ o. GivesTaking (TakesUnder o v.latest old) v.latest old c.in_ok-taken.taken)) (sym e.kept) e.takes)
     replaced (answered r.result) became puts in
     search (rules, all)
 
@@ -370,7 +370,7 @@ returns-then-is_none-clause-truncates g c =
     let r = c.replace_missing in
     let undone = to_z-of_z {w = w64} {z = m} (search rules) in
     let became = subst (λ m. IfOk (answered r.result) (λ answer. Replaces (replacement old.view v.latest l m) c.in_ok-taken.taken old r.new.self answer)) undone r.ensures.becomes in
-    replaced-truncates (replacement old.view v.latest l m) c.in_ok-taken.taken old r.new.self v.latest t (subst (λ s. IfSome s (λ o. Gives (TakesUnder o v.latest old) v.latest old c.in_ok-taken.taken)) v.ensures.kept e.takes) (answered r.result) became
+    replaced-truncates (replacement old.view v.latest l m) c.in_ok-taken.taken old r.new.self v.latest t (subst (λ s. IfSome s (λ o. GivesTaking (TakesUnder o v.latest old) v.latest old c.in_ok-taken.taken)) v.ensures.kept e.takes) (answered r.result) became
 
 pub returns-then-is_none-clause-segments : goal.returns-then-is_none-clause-segments
 returns-then-is_none-clause-segments g c x lawful has =
@@ -676,7 +676,7 @@ returns-clause-keeps g c =
     let made = subst (λ b. WhereModelled (λ o o'. PutsBy unrefused (renewal old.view v.latest l (to_z w64 (of_z w64 m))) old.lease o (put_tried (Ok b)) then.lease o') t2 t3) is c.in_ok-renewed.ensures.puts in
     let puts0 = subst (λ m. WhereModelled (λ o o'. PutsBy {A = Unit {0}} unrefused (renewal old.view v.latest l m) old.lease o (Ok tt) then.lease o') t2 t3) undone made in
     let puts = subst (λ x. WhereModelled (λ o o'. PutsBy {A = Unit {0}} unrefused (renewal old.view v.latest l m) old.lease o (Ok tt) x o') t2 t3) (sym lease_is) puts0 in
-    let all = renewed-kept t v.latest v.ensures.found l m old new managed c.requires.open_ tasks floor same c.in_ok-taken.taken answer answers t2 kept (subst (λ s. IfSome s (λ o. Gives (TakesUnder o v.latest old) v.latest old c.in_ok-taken.taken)) (sym e.kept) e.takes)
+    let all = renewed-kept t v.latest v.ensures.found l m old new managed c.requires.open_ tasks floor same c.in_ok-taken.taken answer answers t2 kept (subst (λ s. IfSome s (λ o. GivesTaking (TakesUnder o v.latest old) v.latest old c.in_ok-taken.taken)) (sym e.kept) e.takes)
     becomes unreplaced due puts in
     search (rules, all)
 
@@ -693,7 +693,7 @@ returns-clause-truncates g c =
     let becomes : new ≡ record (installed old.view c.in_ok-taken.taken old) { lease = new.lease } =
     c.install-answer-2.ensures.becomes ∙ (ap (λ (f : Follower). installed f.view c.in_ok-taken.taken f) c.in_ok-renewed.ensures.same ∙ ap (λ x. record (installed old.view c.in_ok-taken.taken old) { lease = x }) (sym lease_is)) in
     let answers : answer ≡ answer_of c.in_ok-taken.taken.replayed (number new) = c.install-answer-2.ensures.answer in
-    has-truncated old.view c.in_ok-taken.taken new.lease old new answer becomes answers v.latest t (subst (λ s. IfSome s (λ o. Gives (TakesUnder o v.latest old) v.latest old c.in_ok-taken.taken)) v.ensures.kept e.takes)
+    has-truncated old.view c.in_ok-taken.taken new.lease old new answer becomes answers v.latest t (subst (λ s. IfSome s (λ o. GivesTaking (TakesUnder o v.latest old) v.latest old c.in_ok-taken.taken)) v.ensures.kept e.takes)
 
 pub returns-clause-segments : goal.returns-clause-segments
 returns-clause-segments g c x lawful has =

@@ -1,7 +1,7 @@
 use Rattle.std.proofs.Common.{rules, ◌≡◌, ◌<◌, ◌++◌, ◌∷◌, [], List, length, Err, sym, subst, ap, ◌∙◌}
 use Rattle.slate_model.specs.Follower.{Follower}
 use Rattle.slate_model.specs.Known.{known}
-use Rattle.slate_route.specs.Reading.{Adds, most_readers}
+use Rattle.slate_route.specs.Reading.{AddsReader, most_readers}
 use Rattle.slate_route.proofs.Adding.{leads-with, opening-adds, opening-ready, opening-refused, opening-refuses}
 use Rattle.slate_route.proofs.routers.Router.add.Goals as goal
 
@@ -23,7 +23,7 @@ returns-in-Err-clause-adds g c =
     let before = known g.S.Store.objects g.S.Store.faults c.args.store.now in
     let after = known g.S.Store.objects g.S.Store.faults c.open_reader.new.store in
     let few : length c.args.self.now < most_readers = search rules in
-    subst (λ (xs : List Follower). Adds c.args.self.now xs before.faults after.faults (Err c.in-Err.refusal)) (sym (c.reserve.ensures.items ∙ c.self.view_is)) (opening-refuses c.args.self.now few c.in-Err.refusal c.in-Err.ensures.opens)
+    subst (λ (xs : List Follower). AddsReader c.args.self.now xs before.faults after.faults (Err c.in-Err.refusal)) (sym (c.reserve.ensures.items ∙ c.self.view_is)) (opening-refuses c.args.self.now few c.in-Err.refusal c.in-Err.ensures.opens)
 
 pub returns-in-Err-clause-leads : goal.returns-in-Err-clause-leads
 returns-in-Err-clause-leads g c live places w merge over =

@@ -4,7 +4,7 @@ use Rattle.std.proofs.lemmas.Int.{to_z-of_z}
 use Rattle.slate_seqtrack.specs.Thinning.{thinned}
 use Rattle.slate_seqtrack.specs.Tracker.{Tracker, paired, is_early, last_number}
 use Rattle.slate_seqtrack.proofs.Pairing.{paired-recorded, last_number-paired}
-use Rattle.slate_seqtrack.proofs.Rising.{IsKept-recorded}
+use Rattle.slate_seqtrack.proofs.Rising.{IsKeptTracker-recorded}
 use Rattle.slate_seqtrack.proofs.tracker.SequenceTracker.«record».Goals as goal
 
 pub invariant_of-self : goal.invariant_of-self
@@ -15,7 +15,7 @@ invariant_of-self c =
     sym (last_number-paired _ _ c.self.invariant.paired) ∙ ap (λ (t : Tracker). last_number t.pairs) c.self.view_is in
     let late : is_early c.self.inside.interval_secs c.self.inside.last_recorded_ts c.args.pair.ts ≡ false =
     ap (λ (t : Tracker). is_early t.interval t.recorded c.args.pair.ts) c.self.view_is ∙ c.requires.late in
-    IsKept-recorded _ c.self.inside.interval_secs c.self.inside.last_recorded_ts _ _ _ _ _ _ _ _ c.args.pair.seq _ c.self.invariant small
+    IsKeptTracker-recorded _ c.self.inside.interval_secs c.self.inside.last_recorded_ts _ _ _ _ _ _ _ _ c.args.pair.seq _ c.self.invariant small
     (rw (to_z-of_z w64 c.args.pair.ts fits) late) (rw last c.requires.rises)
     c.push_thinned.ensures.items c.push_thinned-2.ensures.items c.push_thinned.ensures.capacity c.push_thinned-2.ensures.capacity
 

@@ -12,9 +12,9 @@ pub of_rows-requires-clause-in_range : goal.of_rows-requires-clause-in_range
 of_rows-requires-clause-in_range g c =
     let stored = flat_map (λ table. table) c.args.stored.now in
     let memory = flat_map (λ table. table) c.args.memory.now in
-    let begun = c.in_ok-take_keys.ensures [] (AreWalked-begun c.args.range.now (key_list c.new-keys.result.items) (ap key_list c.new-keys.ensures.items)) in
-    let own = c.in_ok-take_own_keys.ensures (stored ++ memory) (c.in_ok-take_keys-2.ensures stored begun) in
-    let walked = AreWalked-ordered ((stored ++ memory) ++ c.args.self.now ∷ []) c.args.range.now (key_list c.take_own_keys.new.keys.items) (key_list c.order_keys.new.keys.items) c.in_ok-order_keys.ensures.same own in
+    let begun = c.in_ok-add_range_keys.ensures [] (AreWalked-begun c.args.range.now (key_list c.new-keys.result.items) (ap key_list c.new-keys.ensures.items)) in
+    let own = c.in_ok-add_own_keys.ensures (stored ++ memory) (c.in_ok-add_range_keys-2.ensures stored begun) in
+    let walked = AreWalked-ordered ((stored ++ memory) ++ c.args.self.now ∷ []) c.args.range.now (key_list c.add_own_keys.new.keys.items) (key_list c.order_keys.new.keys.items) c.in_ok-order_keys.ensures.same own in
     rw (c.of.ensures, c.in_ok-clone.ensures.cases) (c.in_ok-rows.ensures.within c.args.range.now (rw c.as_slice-keys.ensures.value walked.within))
 
 pub of_rows-requires-clause-in_order : goal.of_rows-requires-clause-in_order
@@ -25,9 +25,9 @@ pub returns-clause-plain : goal.returns-clause-plain
 returns-clause-plain g c merge lawful =
     let stored = flat_map (λ table. table) c.args.stored.now in
     let memory = flat_map (λ table. table) c.args.memory.now in
-    let begun = c.in_ok-take_keys.ensures [] (AreWalked-begun c.args.range.now (key_list c.new-keys.result.items) (ap key_list c.new-keys.ensures.items)) in
-    let own = c.in_ok-take_own_keys.ensures (stored ++ memory) (c.in_ok-take_keys-2.ensures stored begun) in
-    let walked = AreWalked-ordered ((stored ++ memory) ++ c.args.self.now ∷ []) c.args.range.now (key_list c.take_own_keys.new.keys.items) (key_list c.order_keys.new.keys.items) c.in_ok-order_keys.ensures.same own in
+    let begun = c.in_ok-add_range_keys.ensures [] (AreWalked-begun c.args.range.now (key_list c.new-keys.result.items) (ap key_list c.new-keys.ensures.items)) in
+    let own = c.in_ok-add_own_keys.ensures (stored ++ memory) (c.in_ok-add_range_keys-2.ensures stored begun) in
+    let walked = AreWalked-ordered ((stored ++ memory) ++ c.args.self.now ∷ []) c.args.range.now (key_list c.add_own_keys.new.keys.items) (key_list c.order_keys.new.keys.items) c.in_ok-order_keys.ensures.same own in
     let plain = IsScan-from_walk merge (seen_with c.args.bound (stored ++ memory) c.args.self.now) None c.args.range.now c.args.order (key_list c.order_keys.new.keys.items) c.in_ok-rows.rows.items c.in_ok-rows.fault
     (walked-seen c.args.bound (stored ++ memory) c.args.self.now c.args.range.now (key_list c.order_keys.new.keys.items) walked) c.in_ok-order_keys.ensures.in_order
     (rw c.as_slice-keys.ensures.value at c.in_ok-rows.ensures.plain merge lawful) in

@@ -4,13 +4,13 @@ use Rattle.slate_types.specs.Line.{AreNumberedFrom, batches_above}
 use Rattle.slate_model.specs.Handle.{accepted}
 use Rattle.slate_model.specs.Unflushed.{most_bytes}
 use Rattle.slate_reads.specs.Size.{size_of}
-use Rattle.slate_writer.specs.Kept.{IsKept}
+use Rattle.slate_writer.specs.Kept.{IsKeptHandle}
 use Rattle.slate_writer.specs.declared.states.WriterState.TheInside.{Inside}
 use Rattle.slate_writer.proofs.Counted.{IsCounted, counted-beyond, counted-kept}
 use Rattle.slate_writer.proofs.Memory.{fewer-above, numbered-above}
 use Rattle.slate_writer.proofs.Tracking.{ends-later}
 use Rattle.slate_segments.proofs.Prefixes.{rising-kept}
-use Rattle.slate_status.specs.Segments.{AreRising}
+use Rattle.slate_status.specs.Segments.{PrefixesRise}
 use Rattle.std.specs.Prelude.{Vec}
 use Rattle.std.specs.declared.alloc.Global.{Global}
 use Rattle.slate_writer.proofs.states.WriterState.drop_flushed.Goals as goal
@@ -23,8 +23,8 @@ overflow_sub-self c =
     omega (arith, end_is, same, fewer)
 
 -- what is kept once the batches up to a number are dropped
-forgotten : (a : Inside) (n end unlogged : ℕ) (memory bs : List Batch) (segments : Vec (List ℕ) Global) → AreRising segments.items → IsKept a → end ≡ a.floor + length a.memory → memory ≡ batches_above n a.memory → bs ≡ memory → IsCounted a.counted memory unlogged →
-    IsKept (record a { floor = end - length bs; memory = memory; segments = segments; unlogged = unlogged })
+forgotten : (a : Inside) (n end unlogged : ℕ) (memory bs : List Batch) (segments : Vec (List ℕ) Global) → PrefixesRise segments.items → IsKeptHandle a → end ≡ a.floor + length a.memory → memory ≡ batches_above n a.memory → bs ≡ memory → IsCounted a.counted memory unlogged →
+    IsKeptHandle (record a { floor = end - length bs; memory = memory; segments = segments; unlogged = unlogged })
 forgotten a n end unlogged memory bs segments rising kept end_is left same counted =
     let many = ap length left in
     let all = ap length same in

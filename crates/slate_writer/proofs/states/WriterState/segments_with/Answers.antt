@@ -1,5 +1,5 @@
 use Rattle.std.proofs.Common.{◌≡◌, [], ◌++◌, cond, ap, subst, sym, ◌∙◌}
-use Rattle.slate_status.specs.Segments.{AreRising}
+use Rattle.slate_status.specs.Segments.{PrefixesRise}
 use Rattle.slate_model.specs.Handle.{Handle, untabled_segments}
 use Rattle.slate_model.specs.Segments.{segments_with}
 use Rattle.slate_segments.specs.Prefixes.{HaveSame}
@@ -25,11 +25,11 @@ returns-clause-with c x ops took =
     let h = c.args.self.now in
     let all = c.in_ok-segments.segments.items in
     let taken = c.args.taken.items in
-    let rising = subst AreRising c.untabled_segments.ensures.value c.untabled_segments.ensures.rising in
+    let rising = subst PrefixesRise c.untabled_segments.ensures.value c.untabled_segments.ensures.rising in
     let joined = c.in_ok-segments.ensures.set in
     let by_taken = subst (λ ts. HaveSame all (c.untabled_segments.result.now ++ ts)) c.as_slice-2.ensures.value (union-same c.untabled_segments.result.now c.as_slice-2.result.now all joined) in
     let same = subst (λ ks. HaveSame all (ks ++ taken)) c.untabled_segments.ensures.value by_taken in
     c.of.ensures ∙ segments-after x (untabled_segments h) taken all ops rising (union-rising c.untabled_segments.result.now c.as_slice-2.result.now all joined) took same
 
 pub returns-clause-rising : goal.returns-clause-rising
-returns-clause-rising c = subst AreRising (sym c.of.ensures) (union-rising c.untabled_segments.result.now c.as_slice-2.result.now c.in_ok-segments.segments.items c.in_ok-segments.ensures.set)
+returns-clause-rising c = subst PrefixesRise (sym c.of.ensures) (union-rising c.untabled_segments.result.now c.as_slice-2.result.now c.in_ok-segments.segments.items c.in_ok-segments.ensures.set)

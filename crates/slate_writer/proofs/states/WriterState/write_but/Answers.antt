@@ -6,7 +6,7 @@ use Rattle.slate_types.specs.declared.batches.KeyOp.{KeyOp}
 use Rattle.slate_transactions.specs.Writes.{Tracking, is_among}
 use Rattle.slate_reads.specs.Size.{ops_size, size_of}
 use Rattle.std.specs.Prelude.{unwrap_or}
-use Rattle.slate_status.specs.Segments.{AreRising}
+use Rattle.slate_status.specs.Segments.{PrefixesRise}
 use Rattle.slate_model.specs.Handle.{Handle, accepted, unstored}
 use Rattle.slate_model.specs.Unflushed.{most_bytes}
 use Rattle.slate_types.proofs.Lines.{numbered-push}
@@ -47,7 +47,7 @@ invariant_of-self-2 g c =
       fits = simp length-append (omega arith);
       durable = simp length-append (omega (arith, c.self.invariant.durable));
       tracked = ends-pushed c.self.inside.floor memory _ c.self.inside.tracker _ _ c.self.invariant.tracked next c.track.ensures.taken;
-      rising = rw c.replace.ensures (subst (λ (h : Handle). AreRising (unwrap_or c.in-Ok.admitted.1 h.segments)) (sym c.self.view_is) rises);
+      rising = rw c.replace.ensures (subst (λ (h : Handle). PrefixesRise (unwrap_or c.in-Ok.admitted.1 h.segments)) (sym c.self.view_is) rises);
       stored = c.self.invariant.stored;
       seated = search rules;
       told = c.self.invariant.told;

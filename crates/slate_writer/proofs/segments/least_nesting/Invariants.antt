@@ -1,5 +1,0 @@
-use Rattle.slate_writer.proofs.Orders.{AreNone}
-use Rattle.slate_writer.proofs.segments.least_nesting.Given as goal
-
-abbrev pub invariant-loop-n : goal.invariant-loop-n
-invariant-loop-n l = AreNone l.known l.prefix l.n

@@ -2,14 +2,14 @@
 use Rattle.std.proofs.Common.{◌≡◌, ◌≢◌, ◌∙◌, ℕ, ℤ, ◌+◌, ◌-◌, ◌*◌, ◌<◌, ◌≤◌, ◌&&◌, ◌||◌, ◌==◌, max, not, inl, inr, Bool, true, false, if◌then◌else◌, List, [], ◌∷◌, ◌++◌, length, Option, Some, None, Result, Ok, Err, refl, sym, ap, subst, arith}
 use Rattle.std.proofs.Math.Nat.{mul-le-mul_left, suc-mul}
 use Rattle.std.proofs.Math.Numerals.{add-one}
-use Rattle.std.proofs.lemmas.Bool.{cases_lt, eq-eqb, eqb-true, leb-true, ltb-true}
+use Rattle.std.proofs.lemmas.Bool.{cases_lt, eq-eqb, leb-true, ltb-true}
 use Rattle.std.specs.List.{All}
 use Rattle.std.proofs.lemmas.List.Elements.{All-cons, All-head, All-nil, All-tail}
 use Rattle.std.specs.Option.{IfSome, MatchOption}
 use Rattle.std.specs.Prelude.{IsSomeAnd, nat_le, nat_lt, unwrap_or}
 use Rattle.slate_types.specs.declared.batches.Batch.{Batch}
 use Rattle.slate_types.specs.Line.{Line, end}
-use Rattle.slate_store.specs.Checkpoints.{Plan, found, lease_end, new_checkpoint, puts_next, to_end, to_refresh, to_write, with_checkpoints, without_replaced}
+use Rattle.slate_store.specs.Checkpoints.{Plan, found, to_refresh, to_write, with_checkpoints}
 use Rattle.slate_store.specs.Content.{IsSound, content}
 use Rattle.slate_store.specs.Logs.{AreWhole, HaveGap, HaveNoGap}
 use Rattle.slate_store.specs.Objects.{Objects, PutManifest, changed, is_present, last_log, latest_manifest, log_at}
@@ -17,11 +17,9 @@ use Rattle.slate_store.proofs.Entries.{absent}
 use Rattle.slate_store.proofs.Logs.{untruncated, whole-start}
 use Rattle.slate_store.specs.declared.objects.Checkpoint.{Checkpoint}
 use Rattle.slate_store.specs.declared.objects.VersionedManifest.{VersionedManifest}
-use Rattle.slate_store.specs.declared.refusals.StoreRefusal.TheVariants as refusals
 use Rattle.slate_errors.specs.declared.errors.SlateError.{SlateError}
 use Rattle.slate_errors.specs.declared.errors.SlateError.TheVariants as errors
 use Rattle.slate_replay.specs.Replay.{ReplaysNext}
-use Rattle.slate_replay.specs.declared.replays.Replayed.{Replayed}
 use Rattle.slate_replay.specs.declared.replays.Replayed.TheVariants as replays
 use Rattle.slate_model.specs.Begun.{AsksLast, Begun, Breaks, Ended, Ends, Fails, Goes, LooksAt, Puts, ReadsAgain, ReadsLatest, ReadsLog, Stage, Turn, asked_last, asked_lease, begun_at, committed, decided, emptied, first_log, first_of, greatest_number, kept_lease, leads_on, looked_at, no_step, noted, overtaken_by, put_by, reached_number, read_again, read_log, replayed, replaying, taken, view_of, with_log, with_step}
 use Rattle.slate_model.specs.Follower.{Follower, rebuilt}
@@ -29,11 +27,9 @@ use Rattle.slate_model.specs.Known.{IsContent}
 use Rattle.slate_model.specs.declared.answers.PollAnswer.{PollAnswer}
 use Rattle.slate_model.specs.declared.answers.PollAnswer.TheVariants as answers
 use Rattle.slate_types.specs.Modelled.{WhereModelled}
-use Rattle.slate_types.specs.declared.store_errors.StoreFault.TheVariants.{Unavailable}
 use Rattle.slate_model.specs.Lease.{differs, is_due, lease_of, leased}
 use Rattle.slate_model.specs.Seen.{HasSeen}
 use Rattle.slate_model.specs.Stood.{IsPlanned, WasLatest}
-use Rattle.slate_model.specs.Write.{last_number}
 use Rattle.slate_model.specs.declared.leases.Lease.{Lease}
 use Rattle.slate_model.specs.declared.polls.FirstRead.{FirstRead}
 use Rattle.slate_model.specs.declared.polls.PollHistory.{PollHistory}
@@ -46,12 +42,13 @@ use Rattle.slate_model.proofs.Putting.{put-maintains, was-put}
 use Rattle.slate_model.proofs.Reduced.{some-same}
 use Rattle.slate_model.proofs.Reopened.{logs-by}
 use Rattle.slate_follow.specs.Following.{FollowsLine, IsReplaying, StandsAt}
-use Rattle.slate_follow.specs.Lasting.{IsEighth, IsFew, IsOfEighth, IsOvertaken, IsSince, TablesGrew, TablesStay, Lasts, LastsAt, LastsOn, LastsSince, OthersAct, TriesEight, WasRead, at_tables, come_to, most_logs, most_readings, most_steps, steps_since}
-use Rattle.slate_follow.specs.Stepping.{LooksTo, Meets, MeetsAt, StepFails, Steps, log_turn, reads_latest}
+use Rattle.slate_follow.specs.Lasting.{IsFew, IsSince, TablesGrew, TablesStay, Lasts, LastsAt, LastsOn, LastsSince, OthersAct, WasRead, at_tables, come_to, most_logs, most_readings, most_steps, steps_since}
+use Rattle.slate_follow.specs.Stepping.{LooksTo, Meets, MeetsAt, Steps}
 use Rattle.slate_follow.proofs.Rebuilt.{if_some}
 use Rattle.slate_follow.proofs.Lagging.{readings-more, readings-once, readings-twice}
 use Rattle.slate_follow.proofs.Later.{later-whole}
 use Rattle.slate_follow.proofs.Following.{no-gap-rises, same-tables}
+use Rattle.slate_follow.proofs.Plain.{Plain, replayed-plain, decided-plain, committed-plain, read-plain, looked-plain}
 
 -- ---- counts
 one-more-of : (k x : ℕ) → (k + 1) * x ≡ k * x + x
@@ -427,98 +424,6 @@ module _ (first : FirstRead) (o : Objects) (l0 : VersionedManifest) (there : lat
           replayed-left l (record b { latest = Some l }) refl (record { its = its; seen = seen; read = read-one (record b { latest = Some l }) l refl was })
           (λ unasked. let low = subst (λ x. Paced reader.lag first b (if x then 7 + most_readings reader.lag first b.history else 4)) unasked paced in omega (arith, low))
 
--- ---- turns that neither end at a gap nor for the tries
-abbrev Plain : Turn → Type 0
-Plain (Breaks b) = ⊥
-Plain (Fails (errors.TransactionalObjectTimeout tries)) = ⊥
-Plain turn = Unit {0}
-
-next-plain : (lifetime : ℕ) (l next : VersionedManifest) (checkpoint : Checkpoint) (replaces : Bool) (b : Begun) → Plain (put_by (leased lifetime (puts_next l next checkpoint)) replaces b)
-next-plain lifetime l next checkpoint replaces b = by (nat_lt l.id last_number)
-  where
-    by : (x : Bool) → Plain (put_by (leased lifetime (if x then Ok (Some next, checkpoint) else Err refusals.InvalidDBState)) replaces b)
-    by true = tt
-    by false = tt
-
-write-plain : (l : VersionedManifest) (lease : Lease) (moment : ℤ) (b : Begun) → Plain (put_by (leased lease.lifetime (to_write (Some lease.id) (Some lease.lifetime) moment l)) true b)
-write-plain l lease moment b =
-    let checkpoint = new_checkpoint l (Some lease.lifetime) moment in
-    next-plain lease.lifetime l (with_checkpoints (without_replaced (Some lease.id) l.manifest.checkpoints ++ checkpoint ∷ []) l) checkpoint true b
-
-refresh-plain : (l : VersionedManifest) (lease : Lease) (moment : ℤ) (b : Begun) → Plain (put_by (leased lease.lifetime (to_refresh lease.id lease.lifetime moment l)) false b)
-refresh-plain l lease moment b = by (found lease.id l)
-  where
-    by : (there : Option Checkpoint) → Plain (put_by (leased lease.lifetime (to_end lease.id (lease_end moment lease.lifetime) l there)) false b)
-    by None = tt
-    by (Some checkpoint) = next-plain lease.lifetime l _ _ false b
-
-replayed-plain : (l : VersionedManifest) (b : Begun) → Plain (replayed l b)
-replayed-plain l b = by b.lease
-  where
-    kept-by : (lease : Lease) (there : Option Checkpoint) → Plain (kept_lease b.moment lease l there (record b { asked = true }))
-    kept-by lease (Some checkpoint) = refresh-plain l lease b.moment (record b { asked = true })
-    kept-by lease None = write-plain l lease b.moment (record b { asked = true })
-
-    due : (lease : Lease) (x : Bool) → Plain (if x then kept_lease b.moment lease l (found lease.id l) (record b { asked = true }) else Ends (record b { stage = Ended }))
-    due lease true = kept-by lease (found lease.id l)
-    due lease false = tt
-
-    by : (held : Option Lease) → Plain (asked_lease held l b)
-    by None = tt
-    by (Some lease) = due lease (not b.asked && is_due b.moment lease)
-
-replaying-plain : (reader : Follower) (l : VersionedManifest) (b : Begun) → Plain (replaying reader l b)
-replaying-plain reader l b = by reader.skips (leads_on reader b)
-  where
-    by : (skips leads : Bool) → Plain (if skips then replayed l (emptied reader l.manifest.replay_after_wal_id b) else (if leads then Goes (record b { stage = AsksLast; mark = max b.mark l.manifest.replay_after_wal_id }) else Goes (record (emptied reader l.manifest.replay_after_wal_id b) { stage = AsksLast })))
-    by true leads = replayed-plain l (emptied reader l.manifest.replay_after_wal_id b)
-    by false true = tt
-    by false false = tt
-
-decided-plain : (reader : Follower) (l : VersionedManifest) (lease : Option Lease) (b : Begun) → Plain (decided reader l lease b)
-decided-plain reader l None b = replaying-plain reader l (record b { view = Some l; latest = Some l })
-decided-plain reader l (Some held) b = by (differs reader.view l)
-  where
-    by : (x : Bool) → Plain (if x then put_by (leased held.lifetime (to_write (Some held.id) (Some held.lifetime) b.moment l)) true (record b { latest = Some l }) else replaying reader l (record b { latest = Some l }))
-    by true = write-plain l held b.moment (record b { latest = Some l })
-    by false = replaying-plain reader l (record b { latest = Some l })
-
-committed-plain : (reader : Follower) (next : VersionedManifest) (given : Lease) (replaces : Bool) (b : Begun) → Plain (committed reader next given replaces b)
-committed-plain reader next given true b = replaying-plain reader next (record b { view = Some next; latest = Some next; lease = Some given })
-committed-plain reader next given false b = tt
-
-read-plain : (l : VersionedManifest) (last : ℕ) (fresh : List Batch) (b : Begun) → Plain (read_log l last fresh b)
-read-plain l last fresh b = by (b.mark + 1 == last)
-  where
-    by : (x : Bool) → Plain (if x then replayed l (record b { fresh = fresh; mark = b.mark + 1 }) else Goes (record b { fresh = fresh; mark = b.mark + 1; stage = ReadsLog last }))
-    by true = replayed-plain l (record b { fresh = fresh; mark = b.mark + 1 })
-    by false = tt
-
-looked-plain : (reader : Follower) (l : VersionedManifest) (id last : ℕ) (batches : List Batch) (b : Begun) → Plain (looked_at reader l id last batches b)
-looked-plain reader l id last batches b = by (nat_lt (reached_number b + reader.lag) newest) (nat_lt (reached_number b) newest || id == b.mark + 1)
-  where
-    newest : ℕ
-    newest = greatest_number batches
-
-    by : (x y : Bool) → Plain (if x then Goes (record b { stage = ReadsLog last }) else (if y then replayed l b else Goes (record b { stage = LooksAt (id - 1) last })))
-    by true y = tt
-    by false true = replayed-plain l b
-    by false false = tt
-
-log-untimed : (f : Replayed) (l : VersionedManifest) (last : ℕ) (fresh : List Batch) (b : Begun) (tries : ℕ) → log_turn f l last fresh b ≡ Fails (errors.TransactionalObjectTimeout tries) → ⊥
-log-untimed replays.Whole l last fresh b tries is = subst Plain is (read-plain l last fresh b)
-log-untimed (replays.Truncated id) l last fresh b tries is = cc
-
-again-untimed : (l : VersionedManifest) (b : Begun) (tries : ℕ) → read_again l b ≡ Fails (errors.TransactionalObjectTimeout tries) → ⊥
-again-untimed l b tries = by (nat_lt b.mark l.manifest.replay_after_wal_id)
-  where
-    by : (x : Bool) → (if x then Breaks (record b { stage = Ended }) else replayed l (record b { latest = Some l })) ≡ Fails (errors.TransactionalObjectTimeout tries) → ⊥
-    by true is = cc
-    by false is = subst Plain is (replayed-plain l (record b { latest = Some l }))
-
-asked-goes-on : (reader : Follower) (last : ℕ) (b : Begun) (turn : Turn) → turn ≡ Goes (asked_last reader last b) → Plain turn
-asked-goes-on reader last b turn is = subst Plain (sym is) tt
-
 -- ---- what commands do, others act so
 -- those after which the objects follow
 pub follows-acts : {stored stored' : Line} (o o' : Objects) → ((l : VersionedManifest) → latest_manifest o ≡ Some l → (n : VersionedManifest) × Follows stored stored' o o' l n) → ((m : VersionedManifest) → WasLatest o m → WasLatest o' m) → OthersAct o o'
@@ -844,67 +749,6 @@ lasts-on o o' reader reader' b b' (Ok (Some (answers.Whole at))) sound f s steps
 lasts-on o o' reader reader' b b' (Ok (Some (answers.Truncated at))) sound f s steps = lasts-breaks o sound reader b f s steps.0 o' steps.1
 lasts-on o o' reader reader' b b' (Err e) sound f s steps = tt
 
--- ---- the eighth overtaken put
-timeout-eighth : (o o' : Objects) (reader : Follower) (b : Begun) (tries : ℕ) (stage : Stage) → MeetsAt stage reader (taken b) o (Fails (errors.TransactionalObjectTimeout tries)) o' → IsOvertaken stage o × (b.overtaken ≡ 7)
-timeout-eighth o o' reader b tries ReadsLatest (l, is, turn_is, same) = absurd (subst Plain (sym turn_is) (decided-plain reader l b.lease (noted l (taken b))))
-timeout-eighth o o' reader b tries (Puts next given replaces) (inl (free, turn_is, put)) = absurd (subst Plain (sym turn_is) (committed-plain reader next given replaces (taken b)))
-timeout-eighth o o' reader b tries (Puts next given replaces) (inr (there, turn_is, same)) = (there, by (b.overtaken == 7) refl turn_is)
-  where
-    by : (x : Bool) → (b.overtaken == 7) ≡ x → Fails (errors.TransactionalObjectTimeout tries) ≡ (if x then Fails (errors.TransactionalObjectTimeout 8) else Goes (begun_at b.moment (b.overtaken + 1) (with_step b.history) reader)) → b.overtaken ≡ 7
-    by true seven is = eqb-true b.overtaken 7 seven
-    by false other is = absurd (cc)
-timeout-eighth o o' reader b tries AsksLast (turn_is, same) = absurd (cc)
-timeout-eighth o o' reader b tries (LooksAt id last) (l, is, turn_is, same) = absurd (by (log_at id o) turn_is)
-  where
-    by : (log : Option (List Batch)) → LooksTo reader l id last (taken b) log (Fails (errors.TransactionalObjectTimeout tries)) → ⊥
-    by None turn_is = cc
-    by (Some batches) turn_is = subst Plain (sym turn_is) (looked-plain reader l id last batches (taken b))
-timeout-eighth o o' reader b tries (ReadsLog last) (read, fresh, found_log, held, n, turn_is, same) = absurd (log-untimed found_log read last fresh (taken b) tries (sym turn_is))
-timeout-eighth o o' reader b tries ReadsAgain (l, is, turn_is, same) = absurd (again-untimed l (taken b) tries (sym turn_is))
-timeout-eighth o o' reader b tries Ended m = absurd m
-
-eighth-turn : (o o' : Objects) (reader : Follower) (b : Begun) (turn : Turn) (stage : Stage) → IsOvertaken stage o → b.overtaken ≡ 7 → MeetsAt stage reader (taken b) o turn o' → turn ≡ Fails (errors.TransactionalObjectTimeout 8)
-eighth-turn o o' reader b turn (Puts next given replaces) there seven (inl (free, turn_is, put)) = absurd (cc (there, free))
-eighth-turn o o' reader b turn (Puts next given replaces) there seven (inr (present, turn_is, same)) =
-    turn_is ∙ ap (λ x. if x then Fails (errors.TransactionalObjectTimeout 8) else Goes (begun_at b.moment (b.overtaken + 1) (with_step b.history) reader)) (eq-eqb b.overtaken 7 seven)
-eighth-turn o o' reader b turn ReadsLatest there seven m = absurd there
-eighth-turn o o' reader b turn AsksLast there seven m = absurd there
-eighth-turn o o' reader b turn (LooksAt id last) there seven m = absurd there
-eighth-turn o o' reader b turn (ReadsLog last) there seven m = absurd there
-eighth-turn o o' reader b turn ReadsAgain there seven m = absurd there
-eighth-turn o o' reader b turn Ended there seven m = absurd there
-
-never-reads : (stage : Stage) (o : Objects) → IsOvertaken stage o → reads_latest stage ≡ true → ⊥
-never-reads (Puts next given replaces) o there reads = cc
-never-reads stage o there reads = absurd there
-
-pub tries-eight : (o o' : Objects) (reader reader' : Follower) (b b' : Begun) (result : Result (Option PollAnswer) SlateError) → Steps reader b result o reader' b' o' → TriesEight o b result
-tries-eight o o' reader reader' b b' result steps = record { only = λ tries is. only tries (subst (λ r. Steps reader b r o reader' b' o') is steps); exact = λ eighth. exact eighth.0 eighth.1 result steps }
-  where
-    only : (tries : ℕ) → Steps reader b (Err (errors.TransactionalObjectTimeout tries)) o reader' b' o' → IsEighth o b
-    only tries steps = timeout-eighth o o' reader b tries b.stage steps
-
-    turn-of : (turn : Turn) → IsOvertaken b.stage o → b.overtaken ≡ 7 → Meets reader b o turn o' → turn ≡ Fails (errors.TransactionalObjectTimeout 8)
-    turn-of turn there seven m = eighth-turn o o' reader b turn b.stage there seven m
-
-    same-error : (e : SlateError) → Fails e ≡ Fails (errors.TransactionalObjectTimeout 8) → IsOfEighth (Err e)
-    same-error e is = let same : e ≡ errors.TransactionalObjectTimeout 8 = cc in subst (λ x. IsOfEighth (Err x)) (sym same) refl
-
-    failed : IsOvertaken b.stage o → b.overtaken ≡ 7 → (e : SlateError) → StepFails e reader b o o' → IsOfEighth (Err e)
-    failed there seven errors.InvalidDBState (inl m) = same-error errors.InvalidDBState (turn-of (Fails errors.InvalidDBState) there seven m)
-    failed there seven errors.InvalidDBState (inr (last, inl m)) = absurd (let no = turn-of (Ends last) there seven m in cc)
-    failed there seven errors.InvalidDBState (inr (last, inr m)) = absurd (let no = turn-of (Breaks last) there seven m in cc)
-    failed there seven errors.LatestTransactionalObjectVersionMissing f = absurd (never-reads b.stage o there f.0)
-    failed there seven (errors.ObjectStoreError Unavailable) f = tt
-    failed there seven errors.NoMemory f = tt
-    failed there seven e f = same-error e (turn-of (Fails e) there seven f)
-
-    exact : IsOvertaken b.stage o → b.overtaken ≡ 7 → (result : Result (Option PollAnswer) SlateError) → Steps reader b result o reader' b' o' → IsOfEighth result
-    exact there seven (Ok None) steps = absurd (let no = turn-of (Goes b') there seven steps.0 in cc)
-    exact there seven (Ok (Some (answers.Whole at))) steps = absurd (let no = turn-of (Ends steps.0) there seven steps.1 in cc)
-    exact there seven (Ok (Some (answers.Truncated at))) steps = absurd (let no = turn-of (Breaks steps.0) there seven steps.1 in cc)
-    exact there seven (Err e) steps = failed there seven e steps
-
 -- over a store
 pub lasts-where : (line : Line) (reader reader' : Follower) (b b' : Begun) (result : Result (Option PollAnswer) SlateError) {s s' : Option Objects} → WhereModelled (λ o o'. Steps reader b result o reader' b' o') s s' → IsContent s line →
     ((o : Objects) → s ≡ Some o → FollowsLine o line reader b × Lasts o reader b) → IfSome s (λ o. IsFew reader.lag b × LastsOn o s' b result reader' b')
@@ -922,6 +766,3 @@ few-where line reader b o is at held =
     let same : is.0 ≡ o = some-same is.0 o (sym is.1 ∙ at) in
     let h = held o at in
     few-steps o (subst IsSound same is.2) reader b (subst (λ (l : Line). FollowsLine o l reader b) (is.3 ∙ ap content same) h.0) h.1
-
-pub tries-where : (reader reader' : Follower) (b b' : Begun) (result : Result (Option PollAnswer) SlateError) {s s' : Option Objects} → WhereModelled (λ o o'. Steps reader b result o reader' b' o') s s' → IfSome s (λ o. TriesEight o b result)
-tries-where reader reader' b b' result {s} {s'} w = if_some s (λ o at. let t = w.some o at in tries-eight o t.0 reader reader' b b' result t.2)

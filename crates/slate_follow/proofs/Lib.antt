@@ -27,4 +27,6 @@ pub mod Stepped
 pub mod Called
 pub mod Arriving
 pub mod Following
+pub mod Plain
 pub mod Lasting
+pub mod Eighth

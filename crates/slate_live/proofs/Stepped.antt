@@ -42,7 +42,8 @@ use Rattle.slate_model.proofs.Maintained.{Maintained}
 use Rattle.slate_model.proofs.Prefixes.{prefix-end, prefix-same}
 use Rattle.slate_model.proofs.Reduced.{some-same}
 use Rattle.slate_follow.proofs.Following.{others-keep}
-use Rattle.slate_follow.proofs.Lasting.{few-steps, lasts-breaks, maintained-acts, others-last, tries-eight}
+use Rattle.slate_follow.proofs.Eighth.{tries-eight}
+use Rattle.slate_follow.proofs.Lasting.{few-steps, lasts-breaks, maintained-acts, others-last}
 use Rattle.slate_follow.specs.Following.{FollowsLine}
 use Rattle.slate_follow.specs.Lasting.{IsEighth, IsOfEighth, IsOvertaken, LastsSince, TablesGrew, TriesEight}
 use Rattle.slate_follow.specs.Answering.{IsOfPoll}

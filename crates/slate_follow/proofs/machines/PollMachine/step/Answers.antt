@@ -2,7 +2,8 @@ use Rattle.std.proofs.Common.{◌≡◌, ◌∙◌, Err, Ok, ap, subst, sym}
 use Rattle.slate_model.specs.Follower.{Follower}
 use Rattle.slate_follow.specs.Following.{AreOf}
 use Rattle.slate_follow.proofs.Following.{failed-line, follows-on}
-use Rattle.slate_follow.proofs.Lasting.{few-where, lasts-where, tries-where}
+use Rattle.slate_follow.proofs.Eighth.{tries-where}
+use Rattle.slate_follow.proofs.Lasting.{few-where, lasts-where}
 use Rattle.slate_follow.proofs.Rebuilt.{if_some}
 use Rattle.slate_follow.proofs.machines.PollMachine.step.Goals as goal
 

@@ -16,9 +16,10 @@ use Rattle.slate_readers.specs.declared.words.LiveWords.{LiveWords}
 abbrev pub handed : Live → Handed
 handed live = record { replies = live.finished.replies; publisher = live.publisher; readers = live.readers }
 
--- room for the replies to so many commands and for the readers, the extractor that the words ask for, a publisher that has published
+-- the words, room for the replies to so many commands and for the readers, the extractor that the words ask for, a publisher that has published
 -- nothing, and as many readers as the words ask for, which were made with it
 pub record IsOpened (words : LiveWords) (commands : ℕ) (opened : Opened) : Type 0 where
+  pub asked : opened.words ≡ words
   pub replies : (opened.replies.items ≡ []) × (commands ≤ vec_capacity opened.replies)
   pub extractor : opened.extractor ≡ words.options.segments
   pub publisher : opened.publisher.states ≡ []

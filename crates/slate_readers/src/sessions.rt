@@ -14,6 +14,7 @@ use crate::Gate;
 use crate::beside::run_beside;
 use crate::broadcasts::Broadcast;
 use crate::printing::print_readers;
+use crate::runs::Script;
 use crate::watchers::{Watcher, end_all, give_back, number_readers};
 use crate::words::{LiveWords, read_live_words};
 use slate_live::extractor_of;
@@ -52,9 +53,10 @@ impl Live {
     }
 }
 
-/// What a live session needs before its commands are run: room for their replies, the extractor, the publisher, the readers, and
-/// room in which these are handed back. It isn't `Drop`, as a publisher isn't.
+/// What a live session needs before its commands are run: its words, room for the replies, the extractor, the publisher, the
+/// readers, and room in which these are handed back. It isn't `Drop`, as a publisher isn't.
 struct Opened {
+    words: LiveWords,
     replies: Vec<Reply>,
     extractor: Option<FixedPrefix>,
     publisher: FollowerPublisher,
@@ -95,6 +97,7 @@ fn open<R: Wait>(
     let extractor = extractor_of(alloc, words.options.segments)?;
     let (publisher, watchers) = open_watchers(rt, alloc, words.readers)?;
     Ok(Opened {
+        words,
         replies,
         extractor,
         publisher,
@@ -128,20 +131,20 @@ fn write_live<O: Sink>(
 fn run_live<R: Threads + Wait + Sync, O: Sink, S: Store, G: Gate + Sync>(
     rt: &R,
     alloc: Global,
-    words: LiveWords,
     opened: Opened,
     commands: &[Command],
     sink: &mut O,
     store: &mut S,
     gate: &G,
 ) -> Live
-    requires { IsOpened words (length commands.now) opened }
+    requires { IsOpened opened.words (length commands.now) opened }
     ensures sink_faults { O.faults sink.old ≤ O.faults sink.new }
     ensures store_faults { S.faults store.old ≤ S.faults store.new }
     ensures ran { (ending : Outcome) × (result.finished.status ≡ status_of ending) × (result.finished.line ≡ refused_line ending)
-        × HasRun words (handed result) ending commands.now (known S.objects S.faults store.old) (known S.objects S.faults store.new) (O.written sink.old) (O.written sink.new) (O.faults sink.old) (O.faults sink.new) }
+        × HasRun opened.words (handed result) ending commands.now (known S.objects S.faults store.old) (known S.objects S.faults store.new) (O.written sink.old) (O.written sink.new) (O.faults sink.old) (O.faults sink.new) }
 {
     let Opened {
+        words,
         mut replies,
         extractor,
         publisher,
@@ -149,14 +152,17 @@ fn run_live<R: Threads + Wait + Sync, O: Sink, S: Store, G: Gate + Sync>(
         mut readers,
     } = opened;
     let mut broadcast = Broadcast::new(publisher);
+    let script = Script {
+        options: &words.options.options,
+        operator: &words.options.operator,
+        extractor: &extractor,
+        commands,
+    };
     run_beside(
         rt,
         alloc,
         store,
-        &words.options.options,
-        words.options.operator.as_ref(),
-        extractor.as_ref(),
-        commands,
+        &script,
         &mut broadcast,
         &mut replies,
         gate,
@@ -228,14 +234,5 @@ pub fn live_session<R: Threads + Wait + Sync, I: Source, O: Sink, S: Store + Sen
     let Ok(opened) = open(rt, alloc, words, commands.len()) else {
         return Live::stopped(alloc, Outcome::NoMemory);
     };
-    run_live(
-        rt,
-        alloc,
-        words,
-        opened,
-        commands.as_slice(),
-        sink,
-        store,
-        gate,
-    )
+    run_live(rt, alloc, opened, commands.as_slice(), sink, store, gate)
 }

@@ -20,11 +20,12 @@ const SCRIPT: &[u8] =
 const TEXT: &[u8] =
     b"handle 0\nwrite 0 number 1\nfollower 1 whole at 0\nnone\nflushed\nnone\nwhole at 1\nvalue x number 1 created 1\nreader 0 at 1\nreader 1 at 1\n";
 
-/// Runs the script over a fresh store beside two readers. It answers the status, how many states were published, and how many the
+/// Runs a script over a fresh store beside two readers. It answers the status, how many states were published, and how many the
 /// readers have seen in all.
 fn run_live<R: Threads + Wait + Sync, G: Gate + Sync>(
     rt: &R,
     alloc: Global,
+    script: &[u8],
     sink: &mut VecSink,
     gate: &G,
 ) -> Result<(u8, u64, u64), AllocError> {
@@ -32,7 +33,7 @@ fn run_live<R: Threads + Wait + Sync, G: Gate + Sync>(
     for word in ["live", "--readers", "2"] {
         words.push(String::from_str(alloc, word)?)?;
     }
-    let script = Vec::from_slice(alloc, SCRIPT)?;
+    let script = Vec::from_slice(alloc, script)?;
     let mut source = SliceSource::new(script, PIECE, Seq::of(Vec::new(alloc)));
     let mut store = MemoryStore::new(alloc);
     let live = live_session(
@@ -140,7 +141,7 @@ fn readers_meet(rt: HostRuntime) -> Result<(), Fail> {
     let alloc = rt.alloc();
     let gate = Meeting::new();
     let mut sink = sink(alloc);
-    let ended = run_live(&rt, alloc, &mut sink, &gate)?;
+    let ended = run_live(&rt, alloc, SCRIPT, &mut sink, &gate)?;
     assert!(rt; ended == (0, 2, 4));
     assert!(rt; (gate.has_met(0), gate.has_met(1)) == (true, true));
     Ok(())
@@ -172,11 +173,66 @@ fn readers_see(rt: HostRuntime) -> Result<(), Fail> {
         views: AtomicU64::new(0),
     };
     let mut sink = sink(alloc);
-    let ended = run_live(&rt, alloc, &mut sink, &gate)?;
+    let ended = run_live(&rt, alloc, SCRIPT, &mut sink, &gate)?;
     assert!(rt; ended == (0, 2, 4));
     assert!(rt; sink.written() == TEXT);
     let [first, second] = &gate.numbers;
     assert!(rt; (first.load(Ordering::SeqCst), second.load(Ordering::SeqCst)) == (1, 1));
     assert!(rt; gate.views.load(Ordering::SeqCst) >= 4);
+    Ok(())
+}
+
+/// A reader follows.
+const FOLLOWS: &[u8] = b"0 open\n0 follow latest\n";
+
+/// Its handle flushes, and it polls.
+const ROUND: &[u8] = b"1 put 0 a x\n1 flush 0\n1 poll 1\n";
+
+/// A gate that counts the views of a state that has a batch, and isn't the last one.
+#[derive(Drop)]
+struct Between {
+    last: u64,
+    views: AtomicU64,
+}
+
+impl Gate for Between {
+    fn pass(&self, _reader: u32, _turn: u64) {}
+
+    fn seen(&self, _reader: u32, _turn: u64, number: u64) {
+        if 0 < number && number < self.last {
+            self.views.fetch_add(1, Ordering::SeqCst);
+        }
+    }
+}
+
+/// How many views two readers take of states after the first and before the last one, while a script of so many rounds runs.
+fn views_between<R: Threads + Wait + Sync>(
+    rt: &R,
+    alloc: Global,
+    rounds: u64,
+) -> Result<u64, AllocError> {
+    let mut script = Vec::from_slice(alloc, FOLLOWS)?;
+    for _ in 0..rounds {
+        script.extend_from_slice(ROUND)?;
+    }
+    let gate = Between {
+        last: rounds,
+        views: AtomicU64::new(0),
+    };
+    run_live(rt, alloc, script.as_slice(), &mut sink(alloc), &gate)?;
+    Ok(gate.views.load(Ordering::SeqCst))
+}
+
+/// Scripts run, ten times as long as the one before, until a reader saw what a later command changed.
+#[test]
+fn readers_see_while_the_script_runs(rt: HostRuntime) -> Result<(), Fail> {
+    let alloc = rt.alloc();
+    let mut views = 0;
+    for rounds in [100, 1_000, 10_000, 50_000] {
+        if views == 0 {
+            views = views_between(&rt, alloc, rounds)?;
+        }
+    }
+    assert!(rt; views > 0);
     Ok(())
 }

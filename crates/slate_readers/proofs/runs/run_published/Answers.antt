@@ -1,7 +1,9 @@
 use Rattle.std.proofs.Common.{◌≡◌, ◌∙◌, ◌+◌, ◌++◌, ◌∷◌, [], List, length, arith, ap, refl, sym, subst, take}
 use Rattle.std.proofs.lemmas.List.{take_all}
 use Rattle.slate_types.specs.declared.batches.Batch.{Batch}
+use Rattle.slate_reads.specs.Read.{IsOperator}
 use Rattle.slate_model.specs.Known.{Known, known}
+use Rattle.slate_model.specs.Segments.{IsExtractor}
 use Rattle.slate_script.specs.declared.commands.Command.{Command}
 use Rattle.slate_script.specs.declared.replies.Reply.{Reply}
 use Rattle.slate_live.specs.Run.{DoAll, none_live}
@@ -35,7 +37,7 @@ loop-command-preserved g c =
     let command = c.command-item.result in
     let reply = c.apply-reply.result in
     let i = c.loop-command.command-index in
-    let more : take (i + 1) c.args.commands.now ≡ take i c.args.commands.now ++ command ∷ [] = take-next c.args.commands.now i command c.loop-command-test.true c.command-item.is in
+    let more : take (i + 1) c.args.script.now.commands.now ≡ take i c.args.script.now.commands.now ++ command ∷ [] = take-next c.args.script.now.commands.now i command c.loop-command-test.true c.command-item.is in
     let store = known g.S.Store.objects g.S.Store.faults c.loop-command.store in
     let store' = known g.S.Store.objects g.S.Store.faults c.apply-reply.new.store in
     record {
@@ -45,25 +47,25 @@ loop-command-preserved g c =
       options = c.apply-reply.ensures.options ∙ c.loop-command.invariant.options;
       origin = c.show.ensures.origin ∙ c.loop-command.invariant.origin;
       does = λ settings lawful extracts options_are.
-          let done = c.apply-reply.ensures.does settings (record { operator_is = λ _. lawful; extractor_is = λ _. extracts }) (options_are ∙ sym c.loop-command.invariant.options) in
-          let all = c.commands_lead_on.ensures.done settings (none_live settings.options) c.loop-command.live c.apply-reply.new.self (known g.S.Store.objects g.S.Store.faults c.args.store.now) store store' (take i c.args.commands.now) c.loop-command.replies.items command reply
+          let done = c.apply-reply.ensures.does settings (record { operator_is = λ _. subst (λ o. IsOperator g.M.MergeOperator.may_answer o settings.merge) (sym c.as_ref-operator.ensures.value) lawful; extractor_is = λ _. subst (λ o. IsExtractor g.E.PrefixExtractor.may_name g.E.PrefixExtractor.may_extract o settings.extractor) (sym c.as_ref-extractor.ensures.value) extracts }) (options_are ∙ sym c.loop-command.invariant.options) in
+          let all = c.commands_lead_on.ensures.done settings (none_live settings.options) c.loop-command.live c.apply-reply.new.self (known g.S.Store.objects g.S.Store.faults c.args.store.now) store store' (take i c.args.script.now.commands.now) c.loop-command.replies.items command reply
           (c.loop-command.invariant.does settings lawful extracts options_are) done in
           subst (λ cs. DoAll settings (none_live settings.options) (known g.S.Store.objects g.S.Store.faults c.args.store.now) cs c.push_reserved.new.self.items c.apply-reply.new.self store') (sym more)
-          (subst (λ rs. DoAll settings (none_live settings.options) (known g.S.Store.objects g.S.Store.faults c.args.store.now) (take i c.args.commands.now ++ command ∷ []) rs c.apply-reply.new.self store') (sym c.push_reserved.ensures.items) all);
+          (subst (λ rs. DoAll settings (none_live settings.options) (known g.S.Store.objects g.S.Store.faults c.args.store.now) (take i c.args.script.now.commands.now ++ command ∷ []) rs c.apply-reply.new.self store') (sym c.push_reserved.ensures.items) all);
       leads = λ settings lawful extracts options_are before is sound.
           let prev = c.loop-command.invariant.leads settings lawful extracts options_are before is sound in
-          let link = c.apply-reply.ensures.link settings (record { operator_is = λ _. lawful; extractor_is = λ _. extracts }) (options_are ∙ sym c.loop-command.invariant.options) _ (prev.led).represents (prev.led).segments in
-          let next = publishing-next c.commands_lead_on.ensures.each settings before (g.S.Store.faults c.args.store.now) (take i c.args.commands.now) c.loop-command.replies.items c.loop-command.live store c.loop-command.broadcast prev command reply link.0 c.apply-reply.new.self store' c.show.new.self
+          let link = c.apply-reply.ensures.link settings (record { operator_is = λ _. subst (λ o. IsOperator g.M.MergeOperator.may_answer o settings.merge) (sym c.as_ref-operator.ensures.value) lawful; extractor_is = λ _. subst (λ o. IsExtractor g.E.PrefixExtractor.may_name g.E.PrefixExtractor.may_extract o settings.extractor) (sym c.as_ref-extractor.ensures.value) extracts }) (options_are ∙ sym c.loop-command.invariant.options) _ (prev.led).represents (prev.led).segments in
+          let next = publishing-next c.commands_lead_on.ensures.each settings before (g.S.Store.faults c.args.store.now) (take i c.args.script.now.commands.now) c.loop-command.replies.items c.loop-command.live store c.loop-command.broadcast prev command reply link.0 c.apply-reply.new.self store' c.show.new.self
           link.1 link.2 link.3 c.show.ensures.place c.show.ensures.whole (c.show.ensures.shows store' link.0 link.2) in
           subst (λ cs. IsPublishing settings before (g.S.Store.faults c.args.store.now) cs c.push_reserved.new.self.items c.apply-reply.new.self store' c.show.new.self) (sym more)
-          (subst (λ rs. IsPublishing settings before (g.S.Store.faults c.args.store.now) (take i c.args.commands.now ++ command ∷ []) rs c.apply-reply.new.self store' c.show.new.self) (sym c.push_reserved.ensures.items) next);
+          (subst (λ rs. IsPublishing settings before (g.S.Store.faults c.args.store.now) (take i c.args.script.now.commands.now ++ command ∷ []) rs c.apply-reply.new.self store' c.show.new.self) (sym c.push_reserved.ensures.items) next);
     }
 
 pub returns-clause-airs : goal.returns-clause-airs
 returns-clause-airs g c settings lawful extracts options_are =
     let before = known g.S.Store.objects g.S.Store.faults c.args.store.now in
     let after = known g.S.Store.objects g.S.Store.faults c.loop-command.store in
-    let whole = take_all c.loop-command.command-index c.args.commands.now c.loop-command-test.false in
+    let whole = take_all c.loop-command.command-index c.args.script.now.commands.now c.loop-command-test.false in
     record {
       done = (
         c.loop-command.live,
@@ -71,7 +73,7 @@ returns-clause-airs g c settings lawful extracts options_are =
       );
       run = record {
         honest = λ objects is sound.
-            publishing-all c.commands_lead_on.ensures.all settings objects (g.S.Store.faults c.args.store.now) c.args.commands.now c.loop-command.replies.items c.loop-command.live after c.loop-command.broadcast
+            publishing-all c.commands_lead_on.ensures.all settings objects (g.S.Store.faults c.args.store.now) c.args.script.now.commands.now c.loop-command.replies.items c.loop-command.live after c.loop-command.broadcast
             (subst (λ cs. IsPublishing settings objects (g.S.Store.faults c.args.store.now) cs c.loop-command.replies.items c.loop-command.live after c.loop-command.broadcast) whole (c.loop-command.invariant.leads settings lawful extracts options_are objects is sound));
       };
     }

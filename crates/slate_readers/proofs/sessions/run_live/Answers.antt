@@ -7,7 +7,6 @@ use Rattle.slate_types.specs.Operator.{concat}
 use Rattle.slate_types.specs.Prefix.{fixed_prefix}
 use Rattle.slate_published.specs.Beginnings.{Beginning}
 use Rattle.slate_published.specs.States.{last_of}
-use Rattle.slate_reads.specs.Read.{IsOperator}
 use Rattle.slate_model.specs.Known.{known}
 use Rattle.slate_model.specs.Segments.{IsExtractor}
 use Rattle.slate_script.specs.Replies.{replies_text}
@@ -50,12 +49,12 @@ write_live-ending-requires g c =
 
 pub returns-clause-ran : goal.returns-clause-ran
 returns-clause-ran g c =
-    let words = c.args.words in
+    let words = c.args.opened.words in
     let options = words.options in
     let merge = option_map (λ operator. concat) options.operator in
-    let lawful = subst (λ o. IsOperator (λ operator key existing operand answer. answer ≡ concat key existing operand) o merge) (sym c.as_ref.ensures.value) (appends options.operator) in
+    let lawful = appends options.operator in
     let extractor = option_map fixed_extractor options.segments in
-    let cuts = subst (λ o. IsExtractor (λ length name. name ≡ codes "fixed-" ++ decimal length) (λ length key answer. answer ≡ fixed_prefix length key) o extractor) (sym (c.as_ref-2.ensures.value ∙ c.requires.extractor)) (extracts options.segments) in
+    let cuts = subst (λ o. IsExtractor (λ length name. name ≡ codes "fixed-" ++ decimal length) (λ length key answer. answer ≡ fixed_prefix length key) o extractor) (sym c.requires.extractor) (extracts options.segments) in
     let airs = c.run_beside.ensures.airs (settings_of options) lawful cuts refl in
     let live : Live = record { finished = c.finished.result; publisher = Some c.end_all-was_seen.new.publisher; readers = c.of.result } in
     let published = c.into_parts-publisher.result.0 in

@@ -62,6 +62,7 @@ pub mod Sparing
 pub mod Statuses
 pub mod Staying
 pub mod Taking
+pub mod SteppedWorld
 pub mod Stepped
 pub mod Tasked
 pub mod Tracking
